@@ -1,0 +1,10 @@
+pub mod Coding
+pub mod Living
+pub mod Judging
+pub mod Untils
+pub mod Asked
+pub mod Stepping
+pub mod Accepting
+pub mod Refusing
+pub mod Surviving
+pub mod Quads
