@@ -1,0 +1,4 @@
+pub mod Stacking
+pub mod Popping
+pub mod Orders
+pub mod Pushing
