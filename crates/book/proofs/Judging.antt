@@ -20,7 +20,8 @@ use Rattle.book.specs.declared.records.Record.{Record}
 use Rattle.book.specs.declared.records.Record.the-variants as is
 use Rattle.book.specs.declared.refusals.Refusal.{Refusal}
 use Rattle.book.specs.declared.refusals.Refusal.the-variants.{FieldTooLarge, BookFull, NothingAlive, TooManyQuestions}
-use Rattle.book.specs.Records.{same, enters, withdraws, enteredOf, withdrawnOf, questionCount, isFact, isWithdrawal}
+use Rattle.book.specs.Records.{enters, withdraws, enteredOf, withdrawnOf, questionCount, isFact, isWithdrawal}
+use Rattle.undoable.specs.Kinds.{same}
 use Rattle.book.specs.Alive.{Entry, without, aliveFrom, alive, equalTo}
 use Rattle.book.specs.Rules.{fits, judge, judgeKind, sound, soundAfter}
 use Rattle.book.specs.Theorems.{AliveByCounts}

@@ -14,7 +14,8 @@ use Rattle.std.proofs.shelf.Tests.{eqb-true, and-parts, cases-bool, cond-true, 
 use Rattle.undoable.specs.declared.facts.Fact.{Fact}
 use Rattle.book.specs.declared.records.Record.{Record}
 use Rattle.book.specs.declared.records.Record.the-variants as is
-use Rattle.book.specs.Records.{same}
+use Rattle.undoable.proofs.Orders.{same-is}
+use Rattle.undoable.specs.Kinds.{same}
 use Rattle.book.specs.Alive.{Entry, without, aliveFrom, alive, equalTo}
 
 pub aliveFrom-append : (n : ℕ) (xs : List Entry) (rs qs : List Record) → aliveFrom n xs (rs ++ qs) ≡ aliveFrom (n + length rs) (aliveFrom n xs rs) qs
@@ -25,11 +26,7 @@ aliveFrom-append n xs (is.Question q ∷ rs) qs = rw (add-suc, ← suc-add) (ali
 
 -- equal facts are equal to the same facts
 pub same-right : (f g h : Fact) → same g h ≡ true → same f g ≡ same f h
-same-right f g h e =
-    let p = and-parts _ _ e in
-    let a = eqb-true (g .first) (h .first) (p .0) in
-    let b = eqb-true (g .second) (h .second) (p .1) in
-    (λ i. eqb (f .first) (a i) && eqb (f .second) (b i))
+same-right f g h e = ap (same f) (same-is g h e)
 
 -- a withdrawal of g takes one fact away if some fact equal to g is alive
 pub equalTo-without : (f g : Fact) (xs : List Entry) → 0 < equalTo g xs → equalTo f (without g xs) + cond (same f g) 1 0 ≡ equalTo f xs

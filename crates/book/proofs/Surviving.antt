@@ -17,23 +17,14 @@ use Rattle.undoable.specs.declared.facts.Fact.{Fact}
 use Rattle.book.specs.declared.records.Record.{Record}
 use Rattle.book.specs.declared.records.Record.the-variants as is
 use Rattle.book.specs.Alive.{Entry, without, aliveFrom, alive, equalTo}
-use Rattle.book.specs.Records.{same, isQuestion, questionCount}
+use Rattle.book.specs.Records.{isQuestion, questionCount}
+use Rattle.undoable.specs.Kinds.{same}
 use Rattle.book.specs.Spans.{until, span, holds, entriesFrom, holding, before}
 use Rattle.book.specs.Theorems.{AliveBySpans}
 use Rattle.book.proofs.Asked.{questions-cons}
 use Rattle.book.proofs.Judging.{alive-push}
+use Rattle.undoable.proofs.Orders.{same-is, same-self}
 use Rattle.book.proofs.Untils.{until-more, until-ends}
-
--- equal facts are one fact
-same-is : (f g : Fact) → same f g ≡ true → f ≡ g
-same-is f g e =
-    let p = and-parts _ _ e in
-    let a = eqb-true (f .first) (g .first) (p .0) in
-    let b = eqb-true (f .second) (g .second) (p .1) in
-    λ i. record { first = a i; second = b i }
-
-same-self : (f : Fact) → same f f ≡ true
-same-self f = (λ i. eq-eqb (f .first) (f .first) refl i && eq-eqb (f .second) (f .second) refl i)
 
 same-turn : (f g : Fact) → same f g ≡ false → same g f ≡ false
 same-turn f g e =

@@ -10,7 +10,8 @@ use Rattle.std.proofs.shelf.Tests.{cases-bool, cases-lt, cond-true, cond-false}
 use Rattle.undoable.specs.declared.facts.Fact.{Fact}
 use Rattle.book.specs.declared.records.Record.{Record}
 use Rattle.book.specs.declared.records.Record.the-variants as is
-use Rattle.book.specs.Records.{same, withdraws, isQuestion}
+use Rattle.book.specs.Records.{withdraws, isQuestion}
+use Rattle.undoable.specs.Kinds.{same}
 use Rattle.book.specs.Spans.{until}
 use Rattle.book.proofs.Coding.{cond-small}
 

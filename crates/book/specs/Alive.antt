@@ -7,7 +7,7 @@ use Rattle.std.specs.shelf.Lists.{countBy}
 use Rattle.undoable.specs.declared.facts.Fact.{Fact}
 use Rattle.book.specs.declared.records.Record.{Record}
 use Rattle.book.specs.declared.records.Record.the-variants as is
-use Rattle.book.specs.Records.{same}
+use Rattle.undoable.specs.Kinds.{same}
 
 -- a fact and the number of the record that entered it
 pub record Entry : Type 0 where

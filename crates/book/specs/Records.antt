@@ -1,16 +1,12 @@
 -- Lists of records, the earliest entered first, and what is counted in them.
-use mathlib.Core.Bool.{Bool, true, false, _&&_}
+use mathlib.Core.Bool.{Bool, true, false}
 use mathlib.Core.List.{List}
 use Prim.Native.Nat.{ℕ}
-use lib.Dec.{eqb}
 use Rattle.std.specs.shelf.Lists.{countBy}
+use Rattle.undoable.specs.Kinds.{same}
 use Rattle.undoable.specs.declared.facts.Fact.{Fact}
 use Rattle.book.specs.declared.records.Record.{Record}
 use Rattle.book.specs.declared.records.Record.the-variants as is
-
--- two facts are equal if both fields are
-abbrev pub same : Fact → Fact → Bool
-same f g = eqb (f .first) (g .first) && eqb (f .second) (g .second)
 
 -- the record enters a fact equal to f
 abbrev pub enters : Fact → Record → Bool

@@ -10,7 +10,8 @@ use Rattle.std.specs.declared.option.Option.the-variants.{Some, None}
 use Rattle.undoable.specs.declared.facts.Fact.{Fact}
 use Rattle.book.specs.declared.records.Record.{Record}
 use Rattle.book.specs.declared.records.Record.the-variants as is
-use Rattle.book.specs.Records.{same, questionCount}
+use Rattle.book.specs.Records.{questionCount}
+use Rattle.undoable.specs.Kinds.{same}
 use Rattle.book.specs.Alive.{Entry, alive, equalTo}
 
 -- how many questions stand before the withdrawal of f that comes after k others, or in all the records if there is none

@@ -13,7 +13,7 @@ use Rattle.book.specs.Numbers.{numberOf, placeOf}
 use Rattle.book.specs.Records.{factCount, withdrawalCount, questionCount}
 use Rattle.book.specs.Spans.{span, deepestOf}
 use Rattle.session.specs.declared.calls.Outcome.{Outcome}
-use Rattle.session.specs.declared.calls.Outcome.the-variants.{Entered, Loaded}
+use Rattle.session.specs.declared.calls.Outcome.the-variants.{Entered, Loaded, Pushed, Popped, Answered, Marked, RolledBack, Kept, NoSuchMark}
 
 -- a fact's record, its fields and its span
 abbrev pub spanLine : ℕ → Fact → ℕ × ℕ → List ℕ
@@ -54,3 +54,10 @@ abbrev pub outcomeText : List Record → Outcome → List ℕ
 outcomeText rs (Entered r) = spanListing rs
 outcomeText rs (Loaded (Ok u)) = spanListing rs
 outcomeText rs (Loaded (Err e)) = refusedLine e
+outcomeText rs (Pushed r) = spanListing rs
+outcomeText rs (Popped r) = spanListing rs
+outcomeText rs (Answered r) = spanListing rs
+outcomeText rs (Marked n) = spanListing rs
+outcomeText rs (RolledBack n) = spanListing rs
+outcomeText rs Kept = spanListing rs
+outcomeText rs NoSuchMark = spanListing rs

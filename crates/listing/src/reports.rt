@@ -12,7 +12,11 @@ use crate::spans::refusal_line;
 use crate::spans::span_listing;
 use book::Book;
 use book::input::words_of;
+use prizes::Prize;
+use prizes::Prizes;
+use prizes::PrizesUndoable;
 use session::Call;
+use session::Log;
 use session::Outcome;
 use session::run;
 use std::alloc::AllocError;
@@ -30,9 +34,21 @@ fn report(heap: Global, words: Vec<u32>) -> Result<String, AllocError>
     ensures { λ r. ⌜ made r (λ t. string-bytes t ≡ reportOf (loads (vec-items words))) ⌝ }
 {
     let mut book = Book::new();
+    let mut records = [Prize {
+        amount: 0,
+        copies: 0,
+    }; 1];
+    let mut rows = [0u16; 1];
+    // A load does not touch the structure, so one without room serves.
+    let mut structure = Prizes::new(&mut records, &mut rows);
     let mut calls = Vec::new(heap);
     calls.push(Call::Load(words))?;
-    let mut outcomes = run(heap, &mut book, calls)?;
+    let log = run(heap, &mut structure, &mut book, calls)?;
+    let Log {
+        mut outcomes,
+        marks,
+    } = log;
+    drop(marks);
     match outcomes.pop() {
         Some(outcome) => outcome_text(heap, &book, outcome),
         None => span_listing(heap, &book),
@@ -43,8 +59,8 @@ fn outcome_text(heap: Global, book: &Book, outcome: Outcome) -> Result<String, A
     ensures { λ r. ⌜ made r (λ t. string-bytes t ≡ outcomeText (recordsOf (now (book .entry))) outcome) ⌝ }
 {
     match outcome {
-        Outcome::Entered(_) => span_listing(heap, book),
-        Outcome::Loaded(Ok(())) => span_listing(heap, book),
         Outcome::Loaded(Err(e)) => refusal_line(heap, &e),
+        Outcome::Loaded(Ok(())) => span_listing(heap, book),
+        _ => span_listing(heap, book),
     }
 }

@@ -1,0 +1,3 @@
+// Tests of what programs print, by example.
+#[cfg(test)]
+mod reports;
