@@ -5,3 +5,6 @@ pub mod Counting
 pub mod Chaining
 pub mod Numbering
 pub mod Levels
+pub mod Paths
+pub mod Agreeing
+pub mod Laying

@@ -1,3 +1,4 @@
 pub mod Tree
 pub mod Chains
 pub mod Walks
+pub mod Laid
