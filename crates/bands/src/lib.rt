@@ -1,4 +1,6 @@
 // Bands: which bands are equal, mirrored or both, by facts that can be taken back.
+#![tactic(auto)]
+
 pub mod calls;
 pub mod relations;
 pub mod steps;

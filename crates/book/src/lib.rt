@@ -1,4 +1,6 @@
 // A book: the finished list of facts, withdrawals and questions of one run, held as 32-bit words.
+#![tactic(auto)]
+
 pub mod crowding;
 pub mod entries;
 pub mod input;

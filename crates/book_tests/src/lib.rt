@@ -1,4 +1,6 @@
 // Tests of the book, in a crate of their own so that the book is proved once.
+#![tactic(auto)]
+
 #[cfg(test)]
 mod entering;
 #[cfg(test)]

@@ -1,5 +1,7 @@
 // Reads a finished book from standard input and prints from which question to which each of its facts is alive, or the
 // refusal and its place.
+#![tactic(auto)]
+
 use listing::{book_report, standard_input};
 use std::io::Write;
 

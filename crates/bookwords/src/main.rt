@@ -1,6 +1,8 @@
 // Turns a book written as text into words. Each line of standard input is `fact`, `withdrawal` or `question` and then
 // the two fields in decimal; an empty line is skipped. The words go to standard output, four bytes each, least byte first.
 // The records are not judged, so that refused books can be made too.
+#![tactic(auto)]
+
 use anyhow::anyhow;
 use book::{Record, words_of_record};
 use std::io::{BufRead, BufReader, Write};

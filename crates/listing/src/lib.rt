@@ -1,4 +1,6 @@
 // What programs read and print.
+#![tactic(auto)]
+
 pub mod answers;
 mod bytes;
 pub mod console;

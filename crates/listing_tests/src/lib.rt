@@ -1,4 +1,6 @@
 // Tests of what programs print, by example.
+#![tactic(auto)]
+
 #[cfg(test)]
 mod answers;
 #[cfg(test)]

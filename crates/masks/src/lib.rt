@@ -1,4 +1,6 @@
 // Masks: which masks are the exclusive or of some of the entries.
+#![tactic(auto)]
+
 mod basis;
 pub mod calls;
 mod fields;

@@ -1,5 +1,7 @@
 // Answers payouts from prize lines. Each line of standard input is `amount copies`, which enables a prize line, `undo`, which
 // takes the newest one back, or `payout`, one number, which asks for the least number of prizes that sum to it.
+#![tactic(auto)]
+
 use prizes::{Prize, Prizes};
 use std::io;
 use std::io::{BufRead, BufReader};

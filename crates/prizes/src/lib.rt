@@ -1,4 +1,6 @@
 // Prizes: which payouts the enabled prize lines can make, and with how few prizes.
+#![tactic(auto)]
+
 pub mod calls;
 pub mod lines;
 mod rows;

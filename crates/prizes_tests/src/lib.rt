@@ -1,4 +1,6 @@
 // Tests of the prizes structure by example.
+#![tactic(auto)]
+
 #[cfg(test)]
 mod answers;
 #[cfg(test)]

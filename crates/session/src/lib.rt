@@ -1,4 +1,6 @@
 // Lists of calls on one book and one structure, performed one by one: the place where the library's promises meet.
+#![tactic(auto)]
+
 pub mod calls;
 mod held;
 pub mod running;

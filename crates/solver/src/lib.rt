@@ -1,4 +1,6 @@
 // Solving a book over a tree of its questions.
+#![tactic(auto)]
+
 mod asking;
 mod fitting;
 mod placing;

@@ -1,4 +1,6 @@
 // Structures that can be told facts and can forget the newest ones again: what they owe, and what they share.
+#![tactic(auto)]
+
 pub mod facts;
 pub mod interface;
 pub mod marks;

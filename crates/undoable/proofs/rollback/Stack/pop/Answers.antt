@@ -1,6 +1,6 @@
-use Rattle.std.proofs.Common.{◌≡◌, ℕ, ◌+◌, ◌-◌, ◌<◌, min, [], ◌∷◌, reverse, length, get_or, take, sym, refl, ap, ◌∙◌, arith}
+use Rattle.std.proofs.Common.{◌≡◌, ◌+◌, ◌-◌, ◌<◌, min, [], ◌∷◌, reverse, length, get_or, take, sym, refl, ap, ◌∙◌, arith}
 use Rattle.std.proofs.lemmas.List.{nil_from_length}
-use Rattle.undoable.specs.Stacks.{held, take_result, take_after}
+use Rattle.undoable.specs.Stacks.{take_result, take_after}
 use Rattle.undoable.proofs.Stacking.{held_length, held_less, held_within}
 use Rattle.undoable.proofs.rollback.Stack.pop.Goals as goal
 
