@@ -5,7 +5,7 @@ use Rattle.std.proofs.lemmas.Bool.{cases_Bool, cond-true, cond-false, eqb-true, 
 use Rattle.undoable.specs.declared.facts.Fact.{Fact}
 use Rattle.bands.specs.declared.relations.Relation.{Relation}
 use Rattle.bands.specs.declared.relations.Relation.TheVariants.{Apart, Equal, Mirrored, Both}
-use Rattle.bands.specs.Rule.{far, mirrors, ◌⊕◌, Among, here, later, Walk, stay, along, against, Side, side_of, same_side, merged, label, relation_by, relation, has_even, has_odd, Tells, ByWalks}
+use Rattle.bands.specs.Rule.{far, mirrors, ◌⊕◌, Among, here, later, Walk, stay, along, against, Side, side_of, same_side, merged, label, relation_by, has_even, has_odd, Tells, ByWalks}
 use Rattle.bands.proofs.Walking.{sum_assoc, sum_comm, sum_none, none_sum, sum_self, walk_then, walk_back, walk_step, walk_on}
 
 beq_is : (p q : Bool) → beq p q ≡ true → p ≡ q

@@ -1,13 +1,12 @@
 -- Load and the words of sound lists: each undoes the other.
-use Rattle.std.proofs.Common.{◌≡◌, ℕ, zero, suc, ◌+◌, ◌*◌, ◌/◌, ◌^◌, ◌<◌, ◌≤◌, Bool, true, false, cond, ◌&&◌, eqb, leb, List, [], ◌∷◌, ◌++◌, length, is_ok, Ok, Err, Result, sym, refl, ap, ◌∙◌, subst, ⊎_elim, append_assoc, append-nil, arith}
+use Rattle.std.proofs.Common.{◌≡◌, ℕ, ◌+◌, ◌*◌, ◌^◌, ◌≤◌, Bool, true, false, cond, ◌&&◌, eqb, leb, List, [], ◌∷◌, ◌++◌, is_ok, Ok, Err, Result, sym, refl, ap, ◌∙◌, append_assoc, append-nil, arith}
 use Rattle.std.proofs.lemmas.Nat.{shr_high, shr_split}
 use Rattle.std.proofs.lemmas.Bool.{cond-true, cond_both, ltb-true, and_parts, leb-true, eqb-true, eqb-false}
 use Rattle.book.specs.declared.records.Record.{Record}
 use Rattle.book.specs.declared.records.Record.TheVariants as is
 use Rattle.book.specs.declared.refusals.LoadError.{LoadError}
 use Rattle.book.specs.declared.refusals.Refusal.{Refusal}
-use Rattle.book.specs.declared.refusals.WordFault.TheVariants.{WrongKind, HeadAtEnd}
-use Rattle.book.specs.Loads.{loads_from, loads, and_then, bad_word, bad_record}
+use Rattle.book.specs.Loads.{loads_from, and_then}
 use Rattle.book.specs.Rules.{fits, judge, sound, sound_after}
 use Rattle.book.specs.Theorems.{LoadsBack, LoadsOnlyBooks}
 use Rattle.book.specs.Words.{is_head, is_second, kind_of, payload_in, record_in, record_with, head_word_of, second_word_of, first_of, second_of, tag_of, writes}

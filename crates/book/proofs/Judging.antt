@@ -1,16 +1,15 @@
 -- What an accepted record was tested for, and what holds of every sound list.
-use Rattle.std.proofs.Common.{◌≡◌, ℕ, zero, suc, ◌+◌, ◌<◌, ◌≤◌, Bool, true, false, cond, ◌&&◌, ltb, List, [], ◌∷◌, ◌++◌, length, take, drop, is_ok, Ok, Err, count_by, Result, sym, refl, ap, ◌∙◌, subst, ⊎_elim, append_assoc, append-nil, zero-add, arith}
+use Rattle.std.proofs.Common.{◌≡◌, ℕ, ◌+◌, ◌<◌, Bool, true, false, cond, ltb, List, [], ◌∷◌, ◌++◌, length, take, drop, is_ok, Ok, Err, Result, sym, refl, ap, ◌∙◌, subst, append_assoc, append-nil, zero-add, arith}
 use Rattle.std.proofs.lemmas.List.{length_push, take-append-drop}
-use Rattle.std.proofs.lemmas.List.Sums.{sum_by-cons, sum_by_push, sum_by-append}
-use Rattle.std.proofs.lemmas.Bool.{cases_Bool, cond-true, cond-false, ltb-true, and_parts, and_from}
+use Rattle.std.proofs.lemmas.List.Sums.{sum_by_push}
+use Rattle.std.proofs.lemmas.Bool.{ltb-true, and_parts, and_from}
 use Rattle.undoable.specs.declared.facts.Fact.{Fact}
 use Rattle.book.specs.declared.records.Record.{Record}
 use Rattle.book.specs.declared.records.Record.TheVariants as is
-use Rattle.book.specs.declared.refusals.Refusal.{Refusal}
-use Rattle.book.specs.declared.refusals.Refusal.TheVariants.{FieldTooLarge, BookFull, NothingAlive, TooManyQuestions}
-use Rattle.book.specs.Records.{enters, withdraws, entered_of, withdrawn_of, question_count, is_fact, is_withdrawal}
+use Rattle.book.specs.declared.refusals.Refusal.TheVariants.{FieldTooLarge, BookFull, NothingAlive}
+use Rattle.book.specs.Records.{enters, withdraws, entered_of, withdrawn_of, is_fact, is_withdrawal}
 use Rattle.undoable.specs.Kinds.{same}
-use Rattle.book.specs.Alive.{Entry, without, alive_from, alive, equal_to}
+use Rattle.book.specs.Alive.{alive_from, alive, equal_to}
 use Rattle.book.specs.Rules.{fits, judge, judge_kind, sound, sound_after}
 use Rattle.book.specs.Theorems.{AliveByCounts}
 use Rattle.book.proofs.Living.{alive_from-append, equal_to-without, length_without}

@@ -1,14 +1,13 @@
 -- The facts alive after some records: one record more, and how many equal facts there are.
-use Rattle.std.proofs.Common.{◌≡◌, ℕ, zero, suc, ◌+◌, ◌<◌, ◌≤◌, Bool, true, false, cond, ◌&&◌, eqb, ltb, List, [], ◌∷◌, ◌++◌, length, sym, refl, ap, ◌∙◌, subst, ⊎_elim, add-zero, add-suc, suc-add, arith}
-use Rattle.std.proofs.lemmas.List.{length_push}
-use Rattle.std.proofs.lemmas.List.Sums.{sum_by-cons, sum_by_push, sum_by-append}
-use Rattle.std.proofs.lemmas.Bool.{eqb-true, and_parts, cases_Bool, cond-true, cond-false, ltb-true}
+use Rattle.std.proofs.Common.{◌≡◌, ℕ, suc, ◌+◌, ◌<◌, true, false, cond, List, [], ◌∷◌, ◌++◌, length, refl, ap, ◌∙◌, ⊎_elim, add-zero, add-suc, suc-add, arith}
+use Rattle.std.proofs.lemmas.List.Sums.{sum_by-cons}
+use Rattle.std.proofs.lemmas.Bool.{cases_Bool, cond-true, cond-false}
 use Rattle.undoable.specs.declared.facts.Fact.{Fact}
 use Rattle.book.specs.declared.records.Record.{Record}
 use Rattle.book.specs.declared.records.Record.TheVariants as is
 use Rattle.undoable.proofs.Orders.{same_is}
 use Rattle.undoable.specs.Kinds.{same}
-use Rattle.book.specs.Alive.{Entry, without, alive_from, alive, equal_to}
+use Rattle.book.specs.Alive.{Entry, without, alive_from, equal_to}
 
 pub alive_from-append : (n : ℕ) (xs : List Entry) (rs qs : List Record) → alive_from n xs (rs ++ qs) ≡ alive_from (n + length rs) (alive_from n xs rs) qs
 alive_from-append n xs [] qs = rw add-zero refl

@@ -1,17 +1,16 @@
 -- Where a load is refused: the records before the fault, the fault, and no longer front that loads.
-use Rattle.std.proofs.Common.{◌≡◌, ℕ, zero, suc, ◌+◌, ◌*◌, ◌<◌, ◌≤◌, Bool, true, false, cond, ◌⊎◌, List, [], ◌∷◌, ◌++◌, length, get_or, take, drop, is_ok, Ok, Err, Result, sym, refl, ap, ◌∙◌, subst, inl, inr, ⊎_elim, append_assoc, append-nil, arith}
+use Rattle.std.proofs.Common.{◌≡◌, ℕ, zero, suc, ◌+◌, ◌*◌, ◌<◌, ◌≤◌, true, false, List, [], ◌∷◌, ◌++◌, length, take, drop, is_ok, Ok, Err, Result, sym, refl, ap, ◌∙◌, subst, inl, inr, ⊎_elim, append_assoc, append-nil, arith}
 use Rattle.std.proofs.lemmas.Bool.{cases_Bool, cond-true, cond-false, and_from}
 use Rattle.book.specs.declared.records.Record.{Record}
 use Rattle.book.specs.declared.refusals.LoadError.{LoadError}
 use Rattle.book.specs.declared.refusals.LoadError.TheVariants as from
 use Rattle.book.specs.declared.refusals.Refusal.{Refusal}
 use Rattle.book.specs.declared.refusals.WordFault.TheVariants.{WrongKind, HeadAtEnd}
-use Rattle.book.specs.Loads.{loads_from, loads, and_then, bad_word, bad_record}
-use Rattle.book.specs.Rules.{judge, sound, sound_after}
-use Rattle.book.specs.Theorems.{Faulty, Refused, LoadRefuses}
-use Rattle.book.specs.Words.{is_head, is_second, record_in, head_word_of, second_word_of, writes}
+use Rattle.book.specs.Loads.{loads_from, and_then, bad_word}
+use Rattle.book.specs.Rules.{judge, sound_after}
+use Rattle.book.specs.Theorems.{Faulty, LoadRefuses}
+use Rattle.book.specs.Words.{is_head, is_second, record_in, writes}
 use Rattle.book.proofs.Accepting.{words-record_in}
-use Rattle.book.proofs.Judging.{ok_is}
 
 -- the same from place p on, after the records rs
 record Stopped (p : ℕ) (rs : List Record) (ws : List ℕ) (e : LoadError) : Type 0 where

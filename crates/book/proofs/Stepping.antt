@@ -1,9 +1,8 @@
 -- One word of a load: what a whole record does to what comes of the words ahead.
-use Rattle.std.proofs.Common.{◌≡◌, ℕ, ◌+◌, ◌-◌, Bool, true, false, cond, List, [], ◌∷◌, ◌++◌, Ok, Err, Result, sym, refl, ap, ◌∙◌, arith}
-use Rattle.std.proofs.lemmas.Bool.{cond-true, cond-false}
+use Rattle.std.proofs.Common.{◌≡◌, ℕ, ◌+◌, ◌-◌, List, [], ◌∷◌, ◌++◌, Ok, Err, Result, refl, ap, ◌∙◌, arith}
+use Rattle.std.proofs.lemmas.Bool.{cond-true}
 use Rattle.book.specs.declared.loading.Expected.{Expected}
 use Rattle.book.specs.declared.loading.Expected.TheVariants.{Head, Second}
-use Rattle.book.specs.declared.loading.Step.{Step}
 use Rattle.book.specs.declared.loading.Step.TheVariants.{Half, Whole}
 use Rattle.book.specs.declared.records.Record.{Record}
 use Rattle.book.specs.declared.refusals.LoadError.{LoadError}

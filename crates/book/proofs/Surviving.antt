@@ -1,21 +1,21 @@
 -- The facts alive at a question are those whose span holds it.
 -- An entry alive before some records lasts until as many equal withdrawals have passed as equal entries stand before it.
-use Rattle.std.proofs.Common.{◌≡◌, ℕ, zero, suc, ◌+◌, ◌-◌, ◌<◌, ◌≤◌, Bool, true, false, cond, ◌&&◌, eqb, ltb, leb, List, [], ◌∷◌, ◌++◌, length, take, drop, filter, sym, refl, ap, ◌∙◌, subst, ⊎_elim, append_assoc, append-nil, add-zero, add-suc, zero-add, arith}
+use Rattle.std.proofs.Common.{◌≡◌, ℕ, zero, suc, ◌+◌, ◌-◌, ◌<◌, ◌≤◌, Bool, true, false, cond, ◌&&◌, ltb, List, [], ◌∷◌, ◌++◌, length, take, drop, filter, sym, refl, ap, ◌∙◌, ⊎_elim, append_assoc, append-nil, add-zero, zero-add, arith}
 use Rattle.std.proofs.lemmas.List.{length_push, take_at, drop_at}
-use Rattle.std.proofs.lemmas.List.Sums.{sum_by-cons, sum_by_push}
-use Rattle.std.proofs.lemmas.Bool.{cases_Bool, cond-true, cond-false, eqb-true, eq-eqb, and_parts, and_left, lt-ltb, le-ltb, le-leb, lt-leb, cases_lt}
+use Rattle.std.proofs.lemmas.List.Sums.{sum_by_push}
+use Rattle.std.proofs.lemmas.Bool.{cases_Bool, cond-true, cond-false, and_left, lt-ltb, le-ltb, le-leb, lt-leb, cases_lt}
 use Rattle.undoable.specs.declared.facts.Fact.{Fact}
 use Rattle.book.specs.declared.records.Record.{Record}
 use Rattle.book.specs.declared.records.Record.TheVariants as is
 use Rattle.book.specs.Alive.{Entry, without, alive_from, alive, equal_to}
 use Rattle.book.specs.Records.{is_question, question_count}
 use Rattle.undoable.specs.Kinds.{same}
-use Rattle.book.specs.Spans.{until, span, holds, entries_from, holding, before}
+use Rattle.book.specs.Spans.{until, span, holds, entries_from, before}
 use Rattle.book.specs.Theorems.{AliveBySpans}
 use Rattle.book.proofs.Asked.{questions-cons}
 use Rattle.book.proofs.Judging.{alive-push}
 use Rattle.undoable.proofs.Orders.{same_is, same_self}
-use Rattle.book.proofs.Untils.{until_more, until_ends}
+use Rattle.book.proofs.Untils.{until_more}
 
 same_turn : (f g : Fact) → same f g ≡ false → same g f ≡ false
 same_turn f g e =

@@ -1,5 +1,5 @@
 -- The loader between two words: what comes of the words ahead, given what it expects next.
-use Rattle.std.specs.Prelude.{◌≡◌, ℕ, ◌+◌, ◌-◌, true, cond, List, [], ◌∷◌, Ok, Err, Result}
+use Rattle.std.specs.Prelude.{◌≡◌, ℕ, ◌+◌, ◌-◌, true, cond, List, ◌∷◌, Ok, Err, Result}
 use Rattle.book.specs.declared.loading.Expected.{Expected}
 use Rattle.book.specs.declared.loading.Expected.TheVariants.{Head, Second}
 use Rattle.book.specs.declared.loading.Step.{Step}

@@ -1,7 +1,6 @@
 -- What is true of the definitions, in the words of the subject. Each statement stands on the contract of a public call.
-use Rattle.std.specs.Prelude.{◌≡◌, ℕ, ◌+◌, ◌*◌, ◌<◌, ◌≤◌, true, false, ◌⊎◌, List, [], ◌∷◌, ◌++◌, length, take, drop, is_ok, Some, None, Ok, Err, slice_index}
+use Rattle.std.specs.Prelude.{◌≡◌, ℕ, ◌+◌, ◌*◌, ◌<◌, ◌≤◌, true, false, ◌⊎◌, List, [], ◌∷◌, length, take, drop, is_ok, Some, Ok, Err, slice_index}
 use Rattle.undoable.specs.declared.facts.Fact.{Fact}
-use Rattle.undoable.specs.declared.facts.Question.{Question}
 use Rattle.book.specs.declared.records.Record.{Record}
 use Rattle.book.specs.declared.records.Record.TheVariants as is
 use Rattle.book.specs.declared.refusals.LoadError.{LoadError}

@@ -1,5 +1,5 @@
 -- A basis of masks and what it leaves of a mask, for private contracts. Masks that are listed stand newest first.
-use Rattle.std.specs.Prelude.{◌≡◌, ℕ, zero, suc, ◌-◌, ◌^◌, ◌<◌, ◌≤◌, Bool, true, cond, ◌&&◌, ◌⊎◌, List, [], ◌∷◌, set, replicate, Some, None, Option, ◌==◌, bit_xor, nat_lt, slice_index, slice_set}
+use Rattle.std.specs.Prelude.{◌≡◌, ℕ, zero, suc, ◌-◌, ◌^◌, ◌<◌, ◌≤◌, Bool, true, cond, ◌&&◌, ◌⊎◌, List, [], ◌∷◌, replicate, Some, None, Option, ◌==◌, bit_xor, nat_lt, slice_index, slice_set}
 use Rattle.std.specs.Int.Count.{count_leading_zeros}
 
 -- the slot of a mask: the place of its highest bit

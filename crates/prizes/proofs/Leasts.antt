@@ -1,10 +1,10 @@
 -- The rule is the least over all selections.
-use Rattle.std.proofs.Common.{◌≡◌, ℕ, zero, suc, ◌+◌, ◌-◌, ◌*◌, ◌<◌, ◌≤◌, min, Bool, true, false, cond, ◌&&◌, eqb, leb, ◌⊎◌, List, [], ◌∷◌, sym, refl, ap, ◌∙◌, subst, inl, inr, ⊎_elim, mul-le-mul_left, arith}
+use Rattle.std.proofs.Common.{◌≡◌, ℕ, zero, suc, ◌+◌, ◌-◌, ◌*◌, ◌<◌, ◌≤◌, min, true, false, eqb, leb, List, [], ◌∷◌, sym, subst, inl, inr, ⊎_elim, arith}
 use Rattle.std.proofs.lemmas.Nat.{mul-le}
 use Rattle.std.proofs.lemmas.Bool.{cases_Bool, cases_lt, cond-true, cond-false, le-leb, leb-true, eq-eqb, eqb-true, and_parts}
 use Rattle.undoable.specs.declared.facts.Fact.{Fact}
 use Rattle.undoable.specs.Kinds.{Admitted}
-use Rattle.prizes.specs.Rule.{amount, copies, admits_prize, with_some, with_most, fewest, Selection, worth, prizes, Least, prizes_kind, FewestPrizes}
+use Rattle.prizes.specs.Rule.{amount, copies, with_some, with_most, fewest, Selection, worth, prizes, prizes_kind, FewestPrizes}
 
 module _ (a : ℕ) (r : ℕ → ℕ) (v : ℕ) where
   some_le : (k : ℕ) → k * a ≤ v → with_some a r v k ≤ k + r (v - k * a)

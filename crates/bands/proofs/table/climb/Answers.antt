@@ -14,8 +14,8 @@ module _ (c : In-Some) where
   most : (row_at c.args.rows.now c.in-Some.parent).size ≤ 1024
   most = c.requires.0.most c.in-Some.parent
 
-pub overflow-add-links : goal.overflow-add-links
-overflow-add-links c =
+pub overflow_add-links : goal.overflow_add-links
+overflow_add-links c =
     let few : c.loop-root.links ≤ 10 = few_links c.loop-root.links (omega (arith, c.loop-root.invariant.1, c.requires.0.most c.loop-root.root)) in
     omega (arith, few)
 
@@ -43,8 +43,8 @@ returns c =
     let few : c.loop-root.links + 0 ≤ 10 = omega (arith, few_links c.loop-root.links (omega (arith, c.loop-root.invariant.1, c.requires.0.most c.loop-root.root))) in
     let links : c.loop-root.links + 0 ≡ c.loop-root.links = omega arith in
     record {
-      place = sym (climbs_climbed (c.loop-root.invariant.2 0 c.loop-root.root false (top c.in-default.is)) 10 few ∙ (λ i. place_at (links i) c.loop-root.root (sum_none c.loop-root.odd i)));
-      top = c.in-default.is;
+      place = sym (climbs_climbed (c.loop-root.invariant.2 0 c.loop-root.root false (top c.in_default.is)) 10 few ∙ (λ i. place_at (links i) c.loop-root.root (sum_none c.loop-root.odd i)));
+      top = c.in_default.is;
       inside = c.loop-root.invariant.0;
       shallow = c.loop-root.invariant.1;
     }

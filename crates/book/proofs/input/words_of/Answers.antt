@@ -1,4 +1,4 @@
-use Rattle.std.proofs.Common.{◌≡◌, ℕ, ◌+◌, ◌*◌, ◌/◌, ◌<◌, ◌≤◌, min, [], ◌∷◌, ◌++◌, length, take, is_ok, vec_items, sym, ap, ◌∙◌, ⊎_elim, arith}
+use Rattle.std.proofs.Common.{◌≡◌, ◌+◌, ◌*◌, ◌<◌, ◌≤◌, [], ◌∷◌, ◌++◌, length, take, is_ok, sym, ap, ◌∙◌, ⊎_elim, arith}
 use Rattle.std.proofs.ResultArms.{chosen}
 use Rattle.std.proofs.lemmas.List.{take_more, take_all}
 use Rattle.std.proofs.lemmas.Bool.{cases_lt}
@@ -12,8 +12,8 @@ loop-i-preserved c =
     let i = c.loop-i.i in
     let room : 4 * c.loop-i.i + 3 < length c.args.bytes.now = omega arith in
     let at = words_at bs i room in
-    chosen _ _ _ _ c.push.ensures.items (ap is_ok c.in-ok-push.was)
-    ∙ (λ j. c.loop-i.invariant j ++ (c.word-at.ensures ∙ sym at.1) j ∷ [])
+    chosen _ _ _ _ c.push.ensures.items (ap is_ok c.in_ok-push.was)
+    ∙ (λ j. c.loop-i.invariant j ++ (c.word_at.ensures ∙ sym at.1) j ∷ [])
     ∙ sym (take_more (words_in bs) i 0 at.0)
 
 pub returns : goal.returns

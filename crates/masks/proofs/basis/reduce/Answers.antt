@@ -10,29 +10,29 @@ top_at m t n h e = subst (Top m) (sym e) (slot_top m n h)
 
 -- a turn: the slot of the rest is full
 module _ (c : goal.Else-entry-eq0) where
-  top : Top c.loop-rest.rest c.slot-of-slot.result
-  top = top_at c.loop-rest.rest c.slot-of-slot.result (omega arith) c.loop-rest.invariant.0 c.slot-of-slot.ensures.slot
+  top : Top c.loop-rest.rest c.slot_of-slot.result
+  top = top_at c.loop-rest.rest c.slot_of-slot.result (omega arith) c.loop-rest.invariant.0 c.slot_of-slot.ensures.slot
 
-  lower : bit_xor c.loop-rest.rest (get_or c.args.slots.now c.slot-of-slot.result 0) < 2 ^ c.slot-of-slot.result
-  lower = xor_below c.slot-of-slot.result c.loop-rest.rest _ top.bounds (entry c.args.slots.now c.requires.1.1 c.slot-of-slot.result c.if-entry-eq0.false)
+  lower : bit_xor c.loop-rest.rest (get_or c.args.slots.now c.slot_of-slot.result 0) < 2 ^ c.slot_of-slot.result
+  lower = xor_below c.slot_of-slot.result c.loop-rest.rest _ top.bounds (entry c.args.slots.now c.requires.1.1 c.slot_of-slot.result c.if-entry-eq0.false)
 
 pub loop-rest-smaller : goal.loop-rest-smaller
 loop-rest-smaller c =
     let m = c.loop-rest.rest in
     let t = top c in
-    omega (arith, bits_below c.slot-of-slot.result _ (omega (arith, t.within)) (lower c), bits_top m (omega arith) c.loop-rest.invariant.0, c.slot-of-slot.ensures.slot)
+    omega (arith, bits_below c.slot_of-slot.result _ (omega (arith, t.within)) (lower c), bits_top m (omega arith) c.loop-rest.invariant.0, c.slot_of-slot.ensures.slot)
 
 pub loop-rest-preserved : goal.loop-rest-preserved
 loop-rest-preserved c =
     let t = top c in (
       omega (arith, lower c, t.bounds, c.loop-rest.invariant.0),
-      sym (turn c.args.slots.now c.requires.1.1 58 c.slot-of-slot.result c.loop-rest.rest t.within t.bounds.0 t.bounds.1 c.if-entry-eq0.false) ∙ c.loop-rest.invariant.1,
+      sym (turn c.args.slots.now c.requires.1.1 58 c.slot_of-slot.result c.loop-rest.rest t.within t.bounds.0 t.bounds.1 c.if-entry-eq0.false) ∙ c.loop-rest.invariant.1,
     )
 
 pub returns-then-entry-eq0 : goal.returns-then-entry-eq0
 returns-then-entry-eq0 c =
-    let t = top_at c.loop-rest.rest c.slot-of-slot.result (omega arith) c.loop-rest.invariant.0 c.slot-of-slot.ensures.slot in
-    sym (stop c.args.slots.now 58 c.slot-of-slot.result c.loop-rest.rest t.within t.bounds.0 t.bounds.1 c.if-entry-eq0.true) ∙ c.loop-rest.invariant.1
+    let t = top_at c.loop-rest.rest c.slot_of-slot.result (omega arith) c.loop-rest.invariant.0 c.slot_of-slot.ensures.slot in
+    sym (stop c.args.slots.now 58 c.slot_of-slot.result c.loop-rest.rest t.within t.bounds.0 t.bounds.1 c.if-entry-eq0.true) ∙ c.loop-rest.invariant.1
 
 pub returns : goal.returns
 returns c =

@@ -1,6 +1,5 @@
-use Rattle.std.proofs.Common.{◌≡◌, ℕ, ◌+◌, ◌-◌, ◌*◌, ◌<◌, ◌≤◌, min, get_or, sym, ap, ◌∙◌, arith}
-use Rattle.prizes.specs.Rule.{with_most}
-use Rattle.prizes.proofs.Steps.{most_none, most_more, most_stop}
+use Rattle.std.proofs.Common.{ℕ, ◌+◌, ◌-◌, ◌*◌, ◌≤◌, min, get_or, sym, ap, ◌∙◌, arith}
+use Rattle.prizes.proofs.Steps.{most_more, most_stop}
 use Rattle.prizes.proofs.rows.least.Goals as goal
 
 pub returns-then-used-v : goal.returns-then-used-v

@@ -4,6 +4,6 @@ use Rattle.prizes.proofs.rows.restore_row.Goals as goal
 
 pub returns : goal.returns
 returns c = record {
-  row = c.copy-from-slice.ensures.after ∙ part_row c.args.at c.args.saved.now;
+  row = c.copy_from_slice.ensures.after ∙ part_row c.args.at c.args.saved.now;
   saved = refl;
 }

@@ -1,12 +1,11 @@
-use Rattle.std.proofs.Common.{◌≡◌, ℕ, ◌≤◌, List, map, length, get_or, sym, refl, ap, ◌∙◌, subst, arith}
+use Rattle.std.proofs.Common.{ℕ, ◌≤◌, List, map, length, get_or, sym, refl, ap, ◌∙◌, subst}
 use Rattle.std.specs.List.{range_with_len}
 use Rattle.prizes.specs.Rule.{with_most}
-use Rattle.prizes.specs.Saved.{row_at}
 use Rattle.prizes.proofs.Parting.{part_row, length_row}
 use Rattle.prizes.proofs.rows.work_from.Goals as goal
 
-pub work-row-requires : goal.work-row-requires
-work-row-requires c =
+pub work_row-requires : goal.work_row-requires
+work_row-requires c =
     let xs = c.args.saved.now in
     let is = part_row c.args.at xs in (
       ap length is ∙ length_row c.args.at xs c.requires.0,
@@ -20,6 +19,6 @@ pub returns : goal.returns
 returns c =
     let xs = c.args.saved.now in
     record {
-      row = c.work-row.ensures ∙ ap (λ (l : List ℕ). map (λ v. with_most c.args.amount (λ w. get_or l w 0) v c.args.copies) (range_with_len 0 1001)) (part_row c.args.at xs);
+      row = c.work_row.ensures ∙ ap (λ (l : List ℕ). map (λ v. with_most c.args.amount (λ w. get_or l w 0) v c.args.copies) (range_with_len 0 1001)) (part_row c.args.at xs);
       saved = refl;
     }

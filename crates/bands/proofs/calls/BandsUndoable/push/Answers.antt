@@ -11,7 +11,7 @@ use Rattle.bands.proofs.calls.BandsUndoable.push.Goals as goal
 pub returns-then-self : goal.returns-then-self
 returns-then-self c =
     let p = c.args.self.now in
-    let admitted = sym c.if-not-is-fact.ensures in
+    let admitted = sym c.if-not-is_fact.ensures in
     let full : capacity_of c.args.self.now ≤ length (stack_of c.args.self.now) = omega (arith, c.if-self.true, p.high, p.limited, length-map (held p.stack) fact_of) in
     record {
       result = sym (full_result (kind_of p) (stack_of p) c.args.fact admitted full);
@@ -23,7 +23,7 @@ returns-then-self c =
 pub returns : goal.returns
 returns c =
     let p = c.args.self.now in
-    let admitted = sym c.if-not-is-fact.ensures in
+    let admitted = sym c.if-not-is_fact.ensures in
     let free : length (stack_of c.args.self.now) < capacity_of c.args.self.now = omega (arith, c.if-self.false, p.high, p.limited, length-map (held p.stack) fact_of) in
     record {
       result = sym (push_result_lem (kind_of p) (stack_of p) c.args.fact admitted free);

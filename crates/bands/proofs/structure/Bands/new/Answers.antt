@@ -7,21 +7,16 @@ use Rattle.bands.proofs.Tables.{rows_none, taken_back}
 use Rattle.bands.proofs.Telling.{few_links_rule}
 use Rattle.bands.proofs.structure.Bands.new.Goals as goal
 
-pub invariant-of-result : goal.invariant-of-result
-invariant-of-result c =
-    let none = c.new-stack.ensures.held in (
-      sym (ap length none),
-      (
-        sym c.new-stack.ensures.room,
-        (
-          ap (λ l. all_admitted (facts_of l)) none,
-          (
-            ∣ c.new-table.ensures ∙ sym rows_none ∙ sym (ap (λ l. rows_of (facts_of l)) none) ∣₁,
-            (∣ none ∙ steps_none ∙ sym (ap (λ l. steps_of (facts_of l)) none) ∣₁, tt),
-          ),
-        ),
-      ),
-    )
+pub invariant_of-result : goal.invariant_of-result
+invariant_of-result c =
+    let none = c.new-stack.ensures.held in
+    record {
+      high = sym (ap length none);
+      limited = sym c.new-stack.ensures.room;
+      admitted = ap (λ l. all_admitted (facts_of l)) none;
+      present = ∣ c.new-table.ensures ∙ sym rows_none ∙ sym (ap (λ l. rows_of (facts_of l)) none) ∣₁;
+      steps = ∣ none ∙ steps_none ∙ sym (ap (λ l. steps_of (facts_of l)) none) ∣₁;
+    }
 
 pub returns : goal.returns
 returns c =

@@ -46,15 +46,13 @@ module _ (c : After-push) where
   new_steps : held c.push.new.self ≡ steps_of (f ∷ fs)
   new_steps = on_top ∙ (λ i. step i ∷ steps_now c.args.self.now i) ∙ sym (steps_more f fs)
 
-pub invariant-of-self : goal.invariant-of-self
-invariant-of-self c =
-    let b = c.args.self.now in (
-      omega (arith, b.high, ap length (on_top c)),
-      (
-        b.limited ∙ sym c.push.ensures.room,
-        (
-          ap all_admitted (new_facts c) ∙ and_from _ _ c.requires.0 b.admitted,
-          (∣ new_rows c ∙ ap rows_of (sym (new_facts c)) ∣₁, (∣ new_steps c ∙ ap steps_of (sym (new_facts c)) ∣₁, tt)),
-        ),
-      ),
-    )
+pub invariant_of-self : goal.invariant_of-self
+invariant_of-self c =
+    let b = c.args.self.now in
+    record {
+      high = omega (arith, b.high, ap length (on_top c));
+      limited = b.limited ∙ sym c.push.ensures.room;
+      admitted = ap all_admitted (new_facts c) ∙ and_from _ _ c.requires.0 b.admitted;
+      present = ∣ new_rows c ∙ ap rows_of (sym (new_facts c)) ∣₁;
+      steps = ∣ new_steps c ∙ ap steps_of (sym (new_facts c)) ∣₁;
+    }

@@ -17,11 +17,11 @@ bands q e =
     let b : q.second ≤ 1023 = leb-true q.second 1023 p.1 in (omega arith, omega arith)
 
 pub relation-relation-requires : goal.relation-relation-requires
-relation-relation-requires c = let l = bands c.args.question (sym c.if-not-are-bands.ensures) in (sound_now c.args.self.now, (l.0, l.1))
+relation-relation-requires c = let l = bands c.args.question (sym c.if-not-are_bands.ensures) in (sound_now c.args.self.now, (l.0, l.1))
 
 pub returns : goal.returns
 returns c =
-    let asked = sym c.if-not-are-bands.ensures in
+    let asked = sym c.if-not-are_bands.ensures in
     let l = bands c.args.question asked in
     let b = c.args.self.now in
     let q = c.args.question in

@@ -1,4 +1,4 @@
-use Rattle.std.proofs.Common.{◌≡◌, ◌+◌, ◌<◌, ◌≤◌, sym, ap, ◌∙◌, arith}
+use Rattle.std.proofs.Common.{◌<◌, ◌≤◌, sym, ap, ◌∙◌, arith}
 use Rattle.std.proofs.lemmas.Bool.{cond-true, cond-false, lt-ltb, le-ltb}
 use Rattle.book.specs.Alive.{alive, equal_to}
 use Rattle.book.specs.Records.{question_count}
@@ -21,8 +21,8 @@ returns-else-before c =
     let none : equal_to f (alive rs) ≤ 0 = omega (arith, balanced f rs c.args.self.now.lawful) in
     sym (ap (judge_kind rs) c.in-Withdrawal.is ∙ cond-false _ _ _ (le-ltb 0 _ none))
 
-pub returns-else-self-lt-QUESTION-LIMIT : goal.returns-else-self-lt-QUESTION-LIMIT
-returns-else-self-lt-QUESTION-LIMIT c =
+pub returns-else-self-lt-QUESTION_LIMIT : goal.returns-else-self-lt-QUESTION_LIMIT
+returns-else-self-lt-QUESTION_LIMIT c =
     let rs = records_of c.args.self.now in
     let many : 1024 ≤ question_count rs = omega (arith, c.args.self.now.counted) in
     sym (ap (judge_kind rs) c.in-Question.is ∙ cond-false _ _ _ (le-ltb (question_count rs) 1024 many))

@@ -14,7 +14,7 @@ pub spans-spanned-requires : goal.spans-spanned-requires
 spans-spanned-requires c =
     let q = c.args.question in
     let p = c.args.self.now in
-    let asked = and_parts _ _ (sym c.if-not-is-mask.ensures) in (
+    let asked = and_parts _ _ (sym c.if-not-is_mask.ensures) in (
       subst (λ m. m < 2 ^ 58) (sym c.join.ensures) (join_lt q.first q.second (ltb-true q.first (2 ^ 29) asked.0) (ltb-true q.second (2 ^ 29) asked.1)),
       subst Shaped (sym p.made) (basis_good (masks_of (held p.stack)) p.masks).shaped,
     )
@@ -31,4 +31,4 @@ returns c =
     c.spans-spanned.ensures
     ∙ (λ i. eqb (reduced (p.made i) 58 (c.join.ensures i)) 0)
     ∙ sym (spans (held p.stack) p.masks (asked_of c.args.question)) in
-    ap Ok (c.from.ensures ∙ ap bool_byte test ∙ number _) ∙ sym (cond-true _ _ _ (sym c.if-not-is-mask.ensures))
+    ap Ok (c.from.ensures ∙ ap bool_byte test ∙ number _) ∙ sym (cond-true _ _ _ (sym c.if-not-is_mask.ensures))

@@ -11,7 +11,7 @@ use Rattle.masks.proofs.calls.MasksUndoable.push.Goals as goal
 pub returns-then-self : goal.returns-then-self
 returns-then-self c =
     let p = c.args.self.now in
-    let admitted = sym c.if-not-is-mask.ensures in
+    let admitted = sym c.if-not-is_mask.ensures in
     let full : capacity_of c.args.self.now ≤ length (stack_of c.args.self.now) = omega (arith, c.if-self.true, p.high, p.limited, length-map (held p.stack) (λ s. fact_of s.mask)) in
     record {
       result = sym (full_result (kind_of p) (stack_of p) c.args.fact admitted full);
@@ -23,7 +23,7 @@ returns-then-self c =
 pub returns : goal.returns
 returns c =
     let p = c.args.self.now in
-    let admitted = sym c.if-not-is-mask.ensures in
+    let admitted = sym c.if-not-is_mask.ensures in
     let free : length (stack_of c.args.self.now) < capacity_of c.args.self.now = omega (arith, c.if-self.false, p.high, p.limited, length-map (held p.stack) (λ s. fact_of s.mask)) in
     let fact = ap fact_of c.join.ensures ∙ fact_again c.args.fact admitted in
     record {

@@ -37,25 +37,18 @@ module _ (c : After-push) where
   basis : c.add-slot.new.self.slots ≡ basis_of (masks_of (step ∷ old))
   basis = c.add-slot.ensures.slots ∙ ap (λ b. added b m) c.args.self.now.made ∙ sym (basis_more m (masks_of old))
 
-pub invariant-of-self : goal.invariant-of-self
-invariant-of-self c =
+pub invariant_of-self : goal.invariant_of-self
+invariant_of-self c =
     let p = c.args.self.now in
-    let top = on_top c in (
-      omega (arith, p.high, ap length top),
-      (
-        p.limited ∙ sym c.push.ensures.room,
-        (
-          omega (arith, c.requires.1),
-          (
-            ap (λ l. small (masks_of l)) top ∙ (λ i. lt-ltb (m c) (2 ^ 58) c.requires.0 i && p.masks i),
-            (
-              top ∙ saved c ∙ sym (ap (λ l. steps_of (masks_of l)) top),
-              (basis c ∙ sym (ap (λ l. basis_of (masks_of l)) top), tt),
-            ),
-          ),
-        ),
-      ),
-    )
+    let top = on_top c in
+    record {
+      high = omega (arith, p.high, ap length top);
+      limited = p.limited ∙ sym c.push.ensures.room;
+      few = omega (arith, c.requires.1);
+      masks = ap (λ l. small (masks_of l)) top ∙ (λ i. lt-ltb (m c) (2 ^ 58) c.requires.0 i && p.masks i);
+      steps = top ∙ saved c ∙ sym (ap (λ l. steps_of (masks_of l)) top);
+      made = basis c ∙ sym (ap (λ l. basis_of (masks_of l)) top);
+    }
 
 pub returns : goal.returns
 returns c = record {

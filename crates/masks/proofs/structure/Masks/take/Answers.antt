@@ -43,30 +43,20 @@ clear-requires c =
     let t = found (goal.at.clear-requires c).After-unwrap-step in
     ap clears t.slot ∙ slot_clears (basis_of (masks_of t.below)) (basis_good (masks_of t.below) t.masks) c.unwrap-step.result.mask t.fits
 
-pub invariant-of-self : goal.invariant-of-self
-invariant-of-self c =
-    let d = (goal.at.invariant-of-self c).After-unwrap-step in
+pub invariant_of-self : goal.invariant_of-self
+invariant_of-self c =
+    let d = (goal.at.invariant_of-self c).After-unwrap-step in
     let p = c.args.self.now in
     let t = found d in
     let left = after d in
     let b = basis_of (masks_of t.below) in
     let m = c.unwrap-step.result.mask in
-    let basis : c.args.self.now.basis.slots ≡ added (basis_of (masks_of t.below)) c.unwrap-step.result.mask = p.made ∙ ap (λ l. basis_of (masks_of l)) t.are ∙ basis_more m (masks_of t.below) in (
-      omega (arith, p.high, ap length t.are, ap length left),
-      (
-        p.limited ∙ sym c.pop.ensures.room,
-        (
-          omega (arith, p.few),
-          (
-            ap (λ l. small (masks_of l)) left ∙ t.masks,
-            (
-              left ∙ t.saved ∙ sym (ap (λ l. steps_of (masks_of l)) left),
-              (
-                c.clear.ensures ∙ (λ i. cleared (basis i) (t.slot i)) ∙ added_cleared b (basis_good (masks_of t.below) t.masks) m t.fits ∙ sym (ap (λ l. basis_of (masks_of l)) left),
-                tt,
-              ),
-            ),
-          ),
-        ),
-      ),
-    )
+    let basis : c.args.self.now.basis.slots ≡ added (basis_of (masks_of t.below)) c.unwrap-step.result.mask = p.made ∙ ap (λ l. basis_of (masks_of l)) t.are ∙ basis_more m (masks_of t.below) in
+    record {
+      high = omega (arith, p.high, ap length t.are, ap length left);
+      limited = p.limited ∙ sym c.pop.ensures.room;
+      few = omega (arith, p.few);
+      masks = ap (λ l. small (masks_of l)) left ∙ t.masks;
+      steps = left ∙ t.saved ∙ sym (ap (λ l. steps_of (masks_of l)) left);
+      made = c.clear.ensures ∙ (λ i. cleared (basis i) (t.slot i)) ∙ added_cleared b (basis_good (masks_of t.below) t.masks) m t.fits ∙ sym (ap (λ l. basis_of (masks_of l)) left);
+    }

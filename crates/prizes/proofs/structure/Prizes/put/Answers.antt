@@ -1,10 +1,9 @@
-use Rattle.std.proofs.Common.{◌≡◌, ℕ, suc, ◌+◌, ◌-◌, ◌*◌, ◌/◌, ◌<◌, ◌≤◌, min, true, cond, ltb, leb, List, [], ◌∷◌, map, length, get_or, drop, sym, refl, ap, ◌∙◌, subst, ⊎_elim, arith}
+use Rattle.std.proofs.Common.{◌≡◌, ℕ, suc, ◌+◌, ◌-◌, ◌*◌, ◌/◌, ◌<◌, ◌≤◌, min, List, ◌∷◌, map, length, get_or, drop, sym, refl, ap, ◌∙◌, subst, ⊎_elim, arith}
 use Rattle.std.specs.List.{range_with_len}
 use Rattle.std.proofs.lemmas.Bool.{and_parts, and_from, leb-true, cond-true, lt-ltb, cases_lt}
 use Rattle.undoable.specs.declared.facts.Fact.{Fact}
 use Rattle.undoable.specs.Kinds.{admits_all}
 use Rattle.undoable.specs.Stacks.{held, room}
-use Rattle.prizes.specs.declared.lines.Prize.{Prize}
 use Rattle.prizes.specs.Rule.{with_most, amount, copies, admits_prize}
 use Rattle.prizes.specs.Saved.{row_of, row_at, fact_of, facts_of}
 use Rattle.prizes.proofs.Rowing.{row_more, row_most, row_below}
@@ -22,9 +21,9 @@ module _ (c : After-save) where
   saved_room : 1001 * c.args.self.now.height + 1001 ≤ length c.save.new.self.saved.now
   saved_room = omega (arith, c.save.ensures.long, c.args.self.now.limited, c.requires.1)
 
-pub work-out-requires : goal.work-out-requires
-work-out-requires c =
-    let d = (goal.at.work-out-requires c).After-save in
+pub work_out-requires : goal.work_out-requires
+work_out-requires c =
+    let d = (goal.at.work_out-requires c).After-save in
     let parts = and_parts _ _ c.requires.0 in
     let amounts = and_parts _ _ (and_parts _ _ parts.0).0 in (
       saved_room d,
@@ -56,12 +55,12 @@ module _ (c : After-push) where
   new_facts : facts_of (held c.push.new.self) ≡ f ∷ fs
   new_facts = ap facts_of on_top
 
-  new_row : c.work-out.new.self.row ≡ row_of (f ∷ fs)
-  new_row = c.work-out.ensures.row ∙ ap (λ (l : List ℕ). map (λ v. with_most (amount f) (λ w. get_or l w 0) v (copies f)) (range_with_len 0 1001)) (saved_row before_save) ∙ row_more f fs
+  new_row : c.work_out.new.self.row ≡ row_of (f ∷ fs)
+  new_row = c.work_out.ensures.row ∙ ap (λ (l : List ℕ). map (λ v. with_most (amount f) (λ w. get_or l w 0) v (copies f)) (range_with_len 0 1001)) (saved_row before_save) ∙ row_more f fs
 
-  rows_kept : (i : ℕ) → i < h + 1 → row_at i c.work-out.new.self.saved.now ≡ row_of (drop (h + 1 - i) (f ∷ fs))
+  rows_kept : (i : ℕ) → i < h + 1 → row_at i c.work_out.new.self.saved.now ≡ row_of (drop (h + 1 - i) (f ∷ fs))
   rows_kept i lt =
-      ap (row_at i) c.work-out.ensures.saved
+      ap (row_at i) c.work_out.ensures.saved
       ∙ ⊎_elim
       (λ (l : i < h).
       let one : h + 1 - i ≡ suc (h - i) = omega arith in
@@ -72,24 +71,17 @@ module _ (c : After-push) where
       ap (λ n. row_at n c.save.new.self.saved.now) here ∙ saved_row before_save ∙ ap (λ n. row_of (drop n (f ∷ fs))) (sym one))
       (cases_lt i h)
 
-pub invariant-of-self : goal.invariant-of-self
-invariant-of-self c =
-    let d = (goal.at.invariant-of-self c).After-push in (
-      ap (admits_all admits_prize) (new_facts d) ∙ and_from _ _ c.requires.0 c.args.self.now.admitted,
-      (
-        omega (arith, c.args.self.now.high, ap length (on_top d)),
-        (
-          c.args.self.now.limited ∙ (λ i. min (sym c.push.ensures.room i) ((sym c.save.ensures.long ∙ sym (ap length c.work-out.ensures.saved)) i / 1001)),
-          (
-            omega (arith, c.requires.1),
-            (
-              new_row d ∙ ap row_of (sym (new_facts d)),
-              (λ i lt. rows_kept d i lt ∙ ap (λ l. row_of (drop (h d + 1 - i) l)) (sym (new_facts d)), tt),
-            ),
-          ),
-        ),
-      ),
-    )
+pub invariant_of-self : goal.invariant_of-self
+invariant_of-self c =
+    let d = (goal.at.invariant_of-self c).After-push in
+    record {
+      admitted = ap (admits_all admits_prize) (new_facts d) ∙ and_from _ _ c.requires.0 c.args.self.now.admitted;
+      high = omega (arith, c.args.self.now.high, ap length (on_top d));
+      limited = c.args.self.now.limited ∙ (λ i. min (sym c.push.ensures.room i) ((sym c.save.ensures.long ∙ sym (ap length c.work_out.ensures.saved)) i / 1001));
+      few = omega (arith, c.requires.1);
+      present = new_row d ∙ ap row_of (sym (new_facts d));
+      before = λ i lt. rows_kept d i lt ∙ ap (λ l. row_of (drop (h d + 1 - i) l)) (sym (new_facts d));
+    }
 
 pub returns : goal.returns
 returns c =
@@ -97,5 +89,5 @@ returns c =
     record {
       stack = new_facts d;
       tally = refl;
-      capacity = λ i. min (c.push.ensures.room i) ((ap length c.work-out.ensures.saved ∙ c.save.ensures.long) i / 1001);
+      capacity = λ i. min (c.push.ensures.room i) ((ap length c.work_out.ensures.saved ∙ c.save.ensures.long) i / 1001);
     }
