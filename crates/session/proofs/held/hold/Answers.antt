@@ -6,6 +6,6 @@ use Rattle.session.proofs.held.hold.Goals as goal
 
 pub returns : goal.returns
 returns c = record {
-  held = ap (map note_of) c.push-reserved.ensures.items ∙ map_push note_of (vec_items c.args.held.now) _;
-  reserved = c.push-reserved.ensures.capacity;
+  held = ap (map note_of) c.push_reserved.ensures.items ∙ map_push note_of (vec_items c.args.held.now) _;
+  reserved = c.push_reserved.ensures.capacity;
 }

@@ -7,9 +7,9 @@ use Rattle.session.proofs.held.write_heights.Goals as goal
 
 pub loop-i-preserved : goal.loop-i-preserved
 loop-i-preserved c = (
-  c.push-reserved.ensures.items ∙ (λ j. c.loop-i.invariant.0 j ++ c.height.ensures j ∷ []) ∙ sym (map_more (λ (m : Held). m.mark.height) c.args.held.now c.loop-i.i _ c.loop-i-test.true),
-  omega (arith, c.push-reserved.ensures.len, c.loop-i.invariant.1),
-  c.push-reserved.ensures.capacity ∙ c.loop-i.invariant.2,
+  c.push_reserved.ensures.items ∙ (λ j. c.loop-i.invariant.0 j ++ c.height.ensures j ∷ []) ∙ sym (map_more (λ (m : Held). m.mark.height) c.args.held.now c.loop-i.i _ c.loop-i-test.true),
+  omega (arith, c.push_reserved.ensures.len, c.loop-i.invariant.1),
+  c.push_reserved.ensures.capacity ∙ c.loop-i.invariant.2,
 )
 
 pub returns : goal.returns
