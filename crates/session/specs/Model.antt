@@ -1,5 +1,5 @@
 -- The plain model of a session: a list of records, a stack, a tally and the marks not given back, judged by the rules alone.
-use Rattle.std.specs.Prelude.{◌≡◌, ℕ, suc, ◌-◌, cond, List, [], ◌∷◌, ◌++◌, map, length, Some, None, vec_items, Option, ◌==◌}
+use Rattle.std.specs.Prelude.{ℕ, suc, ◌-◌, cond, List, [], ◌∷◌, ◌++◌, length, Some, None, vec_items, Option, ◌==◌}
 use Rattle.book.specs.declared.records.Record.{Record}
 use Rattle.book.specs.declared.records.Record.TheVariants as is
 use Rattle.book.specs.Loads.{loads, load_result, after_load}

@@ -1,5 +1,5 @@
 -- What a list of calls does, for every kind of structure.
-use Rattle.std.specs.Prelude.{◌≡◌, ℕ, ◌≤◌, List, [], ◌∷◌, ◌++◌, map, length, take, Some}
+use Rattle.std.specs.Prelude.{◌≡◌, ℕ, ◌≤◌, List, map, length, take, Some}
 use Rattle.book.specs.declared.records.Record.{Record}
 use Rattle.undoable.specs.declared.facts.Fact.{Fact}
 use Rattle.undoable.specs.Kinds.{Kind}

@@ -1,5 +1,5 @@
 -- The stack at a question gives the answer for the facts alive there, and there is room for it.
-use Rattle.std.proofs.Common.{◌≡◌, ℕ, ◌+◌, ◌*◌, ◌<◌, ◌≤◌, true, false, ltb, List, [], ◌∷◌, ◌++◌, map, length, None, sym, refl, ap, ◌∙◌, arith}
+use Rattle.std.proofs.Common.{◌≡◌, ℕ, ◌+◌, ◌<◌, ◌≤◌, true, ltb, List, ◌++◌, map, length, None, sym, ap, ◌∙◌, arith}
 use Rattle.std.proofs.ByRecursion.{All-append}
 use Rattle.std.proofs.lemmas.List.{length-append, length-map}
 use Rattle.std.proofs.lemmas.Bool.{ltb-false}
@@ -13,7 +13,7 @@ use Rattle.solver.specs.Chains.{facts_at}
 use Rattle.solver.specs.Laid.{laid, spanned_in}
 use Rattle.solver.specs.Solving.{alive_at, question_at, answer_at, piece_total, first_unsuited}
 use Rattle.solver.specs.Walks.{numbered_fact, node_facts, stack_to, weight}
-use Rattle.solver.proofs.Entered.{pieces_within, pieces_all}
+use Rattle.solver.proofs.Entered.{pieces_all}
 use Rattle.solver.proofs.Living.{living, often_length}
 use Rattle.solver.proofs.Questions.{asked_suits}
 use Rattle.solver.proofs.Suiting.{none_found, all_suit, alive_admitted, laid_admitted}

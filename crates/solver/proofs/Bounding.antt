@@ -1,8 +1,8 @@
 -- A span has few pieces: about two for each level of the tree.
-use Rattle.std.proofs.Common.{◌≡◌, ℕ, zero, suc, ◌+◌, ◌-◌, ◌*◌, ◌/◌, ◌^◌, ◌<◌, ◌≤◌, Bool, true, false, cond, ltb, leb, ◌⊎◌, List, [], ◌∷◌, ◌++◌, map, length, Some, None, filter, Option, sym, refl, ap, ◌∙◌, inl, inr, ⊎_elim, pow-suc, arith}
+use Rattle.std.proofs.Common.{◌≡◌, ℕ, zero, suc, ◌+◌, ◌-◌, ◌*◌, ◌^◌, ◌<◌, ◌≤◌, false, ltb, ◌⊎◌, [], map, length, Some, None, filter, Option, refl, ap, ◌∙◌, inl, inr, ⊎_elim, pow-suc, arith}
 use Rattle.std.proofs.lemmas.List.{length-append}
 use Rattle.std.proofs.lemmas.Bool.{cases_lt, cond-true, lt-ltb}
-use Rattle.solver.specs.Tree.{Node, Placed, middle, nodes_from, inside, parent_inside, is_piece, pieces_of, PiecesFew}
+use Rattle.solver.specs.Tree.{Node, Placed, middle, nodes_from, parent_inside, is_piece, pieces_of, PiecesFew}
 use Rattle.solver.proofs.Cutting.{below, whole, parts, leaf, apart, inside_no}
 
 module _ (s e : ℕ) where

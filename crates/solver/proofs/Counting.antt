@@ -1,5 +1,5 @@
 -- The number of pieces below a node, by the three ways in which it lies to the span.
-use Rattle.std.proofs.Common.{◌≡◌, ℕ, zero, suc, ◌+◌, ◌-◌, ◌/◌, ◌<◌, ◌≤◌, false, ◌⊎◌, length, Some, Option, sym, refl, ap, ◌∙◌, arith}
+use Rattle.std.proofs.Common.{◌≡◌, ℕ, zero, suc, ◌+◌, ◌-◌, ◌<◌, ◌≤◌, false, ◌⊎◌, length, Some, Option, sym, ap, arith}
 use Rattle.std.proofs.lemmas.List.{length-append}
 use Rattle.solver.specs.Tree.{Node, middle, parent_inside, pieces_below}
 use Rattle.solver.proofs.Cutting.{whole, parts, apart, inside_no}

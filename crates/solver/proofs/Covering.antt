@@ -1,9 +1,9 @@
 -- Each question of a span lies in one of its pieces, and no other question in any.
-use Rattle.std.proofs.Common.{◌≡◌, ℕ, zero, suc, ◌+◌, ◌-◌, ◌/◌, ◌<◌, ◌≤◌, Bool, true, false, cond, not, ◌&&◌, ltb, leb, ◌⊎◌, List, [], ◌∷◌, ◌++◌, map, Some, None, count_by, filter, Option, sym, refl, ap, ◌∙◌, inl, inr, ⊎_elim, arith}
+use Rattle.std.proofs.Common.{◌≡◌, ℕ, zero, suc, ◌+◌, ◌-◌, ◌<◌, ◌≤◌, Bool, true, false, cond, ◌&&◌, ltb, leb, ◌⊎◌, List, [], ◌∷◌, ◌++◌, map, Some, None, count_by, filter, Option, sym, refl, ap, ◌∙◌, inl, inr, ⊎_elim, arith}
 use Rattle.std.proofs.lemmas.List.Sums.{sum_by-append}
-use Rattle.std.proofs.lemmas.Bool.{cases_Bool, cases_lt, cond-true, cond-false, le-leb, lt-leb, lt-ltb, le-ltb, and_from, and_left, and_right}
-use Rattle.solver.specs.Tree.{Node, Placed, middle, nodes_from, inside, parent_inside, is_piece, pieces_of, covers, PiecesPartition}
-use Rattle.solver.proofs.Cutting.{below, whole, parts, leaf, apart, inside_no}
+use Rattle.std.proofs.lemmas.Bool.{cases_lt, cond-true, le-leb, lt-leb, lt-ltb, le-ltb, and_from, and_left, and_right}
+use Rattle.solver.specs.Tree.{Node, Placed, middle, nodes_from, parent_inside, is_piece, covers, PiecesPartition}
+use Rattle.solver.proofs.Cutting.{below, whole, parts, leaf, inside_no}
 
 module _ (s e q : ℕ) where
   abbrev held : Bool

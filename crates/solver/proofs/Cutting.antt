@@ -1,9 +1,9 @@
 -- The pieces below a node: none if it is apart from the span, itself if it is inside, else those of its halves.
-use Rattle.std.proofs.Common.{◌≡◌, ℕ, zero, suc, ◌+◌, ◌-◌, ◌*◌, ◌/◌, ◌^◌, ◌<◌, ◌≤◌, Bool, true, false, cond, not, ◌&&◌, ltb, leb, ◌⊎◌, List, [], ◌∷◌, ◌++◌, map, length, Some, None, count_by, filter, Option, sym, refl, ap, ◌∙◌, inl, inr, ⊎_elim, arith}
+use Rattle.std.proofs.Common.{◌≡◌, ℕ, zero, suc, ◌-◌, ◌<◌, ◌≤◌, Bool, true, false, cond, not, leb, ◌⊎◌, List, [], ◌∷◌, ◌++◌, map, Some, filter, Option, sym, refl, ap, ◌∙◌, inl, inr, ⊎_elim, arith}
 use Rattle.std.proofs.lemmas.List.Elements.{filter-append}
 use Rattle.std.proofs.lemmas.List.{map-append}
-use Rattle.std.proofs.lemmas.Bool.{cases_Bool, cases_lt, cond-true, cond-false, le-leb, lt-leb, leb-true, leb-false, and_from, and_left, and_right}
-use Rattle.solver.specs.Tree.{Node, Placed, middle, nodes_from, nodes, inside, parent_inside, is_piece, pieces_below, pieces_of}
+use Rattle.std.proofs.lemmas.Bool.{cases_Bool, cases_lt, cond-true, cond-false, le-leb, lt-leb, and_from, and_left, and_right}
+use Rattle.solver.specs.Tree.{Node, Placed, middle, nodes_from, inside, parent_inside, is_piece, pieces_below}
 
 module _ (s e : ℕ) where
   abbrev span : ℕ × ℕ

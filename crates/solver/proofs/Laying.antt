@@ -1,13 +1,11 @@
 -- The facts on the way to a question are those whose span holds it, counted with repeats.
-use Rattle.std.proofs.Common.{◌≡◌, ℕ, zero, suc, ◌+◌, ◌-◌, ◌*◌, ◌<◌, ◌≤◌, Bool, true, false, cond, ◌&&◌, ltb, leb, List, [], ◌∷◌, ◌++◌, map, length, replicate, count_by, sym, refl, ap, ◌∙◌, ⊎_elim, arith}
+use Rattle.std.proofs.Common.{◌≡◌, ℕ, zero, suc, ◌+◌, ◌-◌, ◌<◌, Bool, true, false, cond, ◌&&◌, ltb, leb, List, [], ◌∷◌, map, replicate, count_by, sym, refl, ap, ◌∙◌, arith}
 use Rattle.std.proofs.lemmas.List.{map-append}
 use Rattle.std.proofs.lemmas.List.Sums.{sum_by-cons, sum_by-append}
-use Rattle.std.proofs.lemmas.Bool.{cases_Bool, cond-true, cond-false}
 use Rattle.undoable.specs.declared.facts.Fact.{Fact}
 use Rattle.undoable.specs.Kinds.{same, times}
 use Rattle.solver.specs.Chains.{numbers_below, numbers_of, times_in}
 use Rattle.solver.specs.Laid.{Spanned, laid}
-use Rattle.solver.specs.Tree.{middle}
 use Rattle.solver.proofs.Paths.{path_sum, path_same, path_add, path_none, path_pieces}
 
 module _ (F : ℕ → Fact) (f : Fact) where

@@ -1,5 +1,5 @@
 -- The stack at a question holds, equally often, the facts alive there and those that it held before.
-use Rattle.std.proofs.Common.{◌≡◌, ℕ, zero, suc, ◌+◌, ◌-◌, ◌*◌, ◌<◌, ◌≤◌, Bool, true, false, cond, ◌&&◌, ltb, leb, List, [], ◌∷◌, ◌++◌, map, length, drop, sum_by, filter, sym, refl, ap, ◌∙◌, subst, ⊎_elim, arith}
+use Rattle.std.proofs.Common.{◌≡◌, ℕ, zero, suc, ◌+◌, ◌-◌, ◌<◌, Bool, true, false, cond, ◌&&◌, ltb, leb, List, [], ◌∷◌, ◌++◌, map, length, drop, sum_by, filter, sym, refl, ap, ◌∙◌, ⊎_elim, arith}
 use Rattle.std.specs.List.{AllByRecursion as All}
 use Rattle.std.proofs.lemmas.List.Sums.{sum_by-cons, sum_by-append}
 use Rattle.std.proofs.lemmas.Bool.{cases_Bool, cond-true, cond-false}
@@ -12,12 +12,12 @@ use Rattle.book.specs.Alive.{Entry}
 use Rattle.book.specs.Records.{question_count}
 use Rattle.book.specs.Spans.{span, holds, entries_from}
 use Rattle.book.proofs.Surviving.{alive_by_spans}
-use Rattle.solver.specs.Laid.{Spanned, laid, spanned_in}
+use Rattle.solver.specs.Laid.{laid, spanned_in}
 use Rattle.solver.specs.Solving.{alive_at}
 use Rattle.solver.specs.Walks.{numbered_fact, first_fact, stack_below, stack_to}
 use Rattle.solver.proofs.Entered.{sum_all}
 use Rattle.solver.proofs.Laying.{laid_path}
-use Rattle.solver.proofs.Paths.{path_sum, path_same, times_stack}
+use Rattle.solver.proofs.Paths.{path_same, times_stack}
 
 -- rearranged lists have one length
 same_length : {xs ys : List Fact} → Rearranged xs ys → length xs ≡ length ys

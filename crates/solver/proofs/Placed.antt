@@ -1,10 +1,10 @@
 -- Placing one more record: the numbers of its span's pieces are added to what is laid.
-use Rattle.std.proofs.Common.{◌≡◌, ℕ, ◌+◌, ◌-◌, ◌*◌, ◌<◌, ◌≤◌, cond, ltb, List, [], ◌∷◌, ◌++◌, map, length, get_or, replicate, Some, None, filter, Option, sym, refl, ap, ◌∙◌, subst, add-one, arith}
+use Rattle.std.proofs.Common.{◌≡◌, ℕ, ◌+◌, ◌*◌, ◌<◌, cond, ltb, List, [], ◌++◌, map, length, get_or, replicate, Some, None, filter, Option, sym, refl, ap, ◌∙◌, subst, add-one, arith}
 use Rattle.std.proofs.lemmas.Bool.{cond-true, lt-ltb}
 use Rattle.book.specs.declared.records.Record.{Record}
 use Rattle.book.specs.Records.{question_count}
 use Rattle.book.specs.Spans.{span_at}
-use Rattle.solver.specs.Chains.{numbers_of, times_in, link_of, facts_at, chain, Linked, Put}
+use Rattle.solver.specs.Chains.{numbers_of, times_in, facts_at, chain, Linked}
 use Rattle.solver.specs.Laid.{Spanned, laid, with_span, spanned_in, Tabled, span_piece_count, is_there}
 use Rattle.solver.specs.Tree.{Placed, is_piece, nodes_from, pieces_of}
 use Rattle.solver.proofs.Agreeing.{numbers_count}

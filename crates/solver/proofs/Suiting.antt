@@ -1,16 +1,15 @@
 -- If no record is unfit, all facts of the book are admitted: those alive at a question, and those laid at a node.
-use Rattle.std.proofs.Common.{◌≡◌, ℕ, zero, suc, ◌+◌, ◌*◌, ◌<◌, ◌≤◌, Bool, true, false, cond, not, List, [], ◌∷◌, ◌++◌, map, length, drop, replicate, Some, None, filter, sym, refl, ap, ◌∙◌, subst, ⊎_elim, arith}
+use Rattle.std.proofs.Common.{◌≡◌, ℕ, zero, suc, ◌+◌, ◌<◌, ◌≤◌, Bool, true, false, not, List, [], ◌∷◌, map, length, drop, replicate, Some, None, sym, refl, ap, ◌∙◌, subst, ⊎_elim, arith}
 use Rattle.std.specs.List.{AllByRecursion as All}
 use Rattle.std.proofs.ByRecursion.{All-append, All-map, all_kept_by}
 use Rattle.std.proofs.lemmas.List.{drop_all}
 use Rattle.std.proofs.lemmas.Bool.{cases_lt, cases_Bool, cond-true, cond-false}
-use Rattle.undoable.specs.declared.facts.Fact.{Fact}
 use Rattle.undoable.specs.Kinds.{Kind, Admitted}
 use Rattle.book.specs.declared.records.Record.{Record}
 use Rattle.book.specs.declared.records.Record.TheVariants as is
 use Rattle.book.specs.Alive.{Entry}
 use Rattle.book.specs.Records.{question_count}
-use Rattle.book.specs.Spans.{span, fact_within, span_if, span_at, holds, entries_from, holding, first_from}
+use Rattle.book.specs.Spans.{span, fact_within, span_if, holds, entries_from, holding, first_from}
 use Rattle.book.proofs.Surviving.{alive_by_spans}
 use Rattle.solver.specs.Chains.{numbers_of, times_in}
 use Rattle.solver.specs.Laid.{Spanned, laid, with_span, spanned_in}

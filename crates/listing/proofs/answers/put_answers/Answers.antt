@@ -5,8 +5,8 @@ use Rattle.listing.proofs.Rooms.{line_first}
 use Rattle.listing.proofs.Writes.{none_written, then_written}
 use Rattle.listing.proofs.answers.put_answers.Goals as goal
 
-pub put-line-at-requires : goal.put-line-at-requires
-put-line-at-requires c =
+pub put_line-at-requires : goal.put_line-at-requires
+put_line-at-requires c =
     let xs = c.args.answers.now in
     let q = c.loop-q.q in
     let inside : c.loop-q.q < length c.args.answers.now = omega arith in
@@ -22,9 +22,9 @@ loop-q-preserved c =
     let line = answer_line q (get_or xs q 0) in
     let rest = lines_from (q + 1) (drop (q + 1) xs) in
     let first = line_first xs q inside in
-    let end = c.put-line-at.ensures.end in
+    let end = c.put_line-at.ensures.end in
     let room : c.loop-q.at + length line ≤ length c.loop-q.out = omega (arith, ap length first, length-append line rest, c.loop-q.invariant.1, c.loop-q.auto.out) in (
-      then_written c.loop-q.at c.put-line-at.result line rest c.loop-q.out c.put-line-at.new.out (written_at c.put-line-at.result rest c.put-line-at.new.out) end room c.put-line-at.ensures.table refl
+      then_written c.loop-q.at c.put_line-at.result line rest c.loop-q.out c.put_line-at.new.out (written_at c.put_line-at.result rest c.put_line-at.new.out) end room c.put_line-at.ensures.table refl
           ∙ ap (λ l. written_at c.loop-q.at l c.loop-q.out) (sym first)
           ∙ c.loop-q.invariant.0,
       omega (arith, ap length first, length-append line rest, c.loop-q.invariant.1, end),

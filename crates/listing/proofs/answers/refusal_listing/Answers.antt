@@ -7,9 +7,9 @@ pub returns : goal.returns
 returns c =
     let text = refused_text c.args.number c.args.place in
     let old = c.args.out.now in
-    let fits : length text ≤ length old = omega (arith, c.refusal-length.ensures) in
-    let end : c.put-line-end.result ≡ length text = omega (arith, c.put-line-end.ensures.end) in
+    let fits : length text ≤ length old = omega (arith, c.refusal_length.ensures) in
+    let end : c.put_line-end.result ≡ length text = omega (arith, c.put_line-end.ensures.end) in
     record {
-      result = whole_result text old c.put-line-end.result fits end;
-      table = whole_table text old c.put-line-end.new.out fits c.put-line-end.ensures.table;
+      result = whole_result text old c.put_line-end.result fits end;
+      table = whole_table text old c.put_line-end.new.out fits c.put_line-end.ensures.table;
     }

@@ -11,7 +11,7 @@ returns-then-left-length c =
     let inside : c.loop-q.q < length c.args.answers.now = omega arith in
     let line = answer_line q (get_or xs q 0) in
     let rest = lines_from (q + 1) (drop (q + 1) xs) in
-    let short : c.loop-q.left < length (line ++ rest) = omega (arith, length-append line rest, c.answer-length-length.ensures) in
+    let short : c.loop-q.left < length (line ++ rest) = omega (arith, length-append line rest, c.answer_length-length.ensures) in
     sym (room_none (line ++ rest) c.loop-q.left short) ∙ ap (λ l. room_left l c.loop-q.left) (sym (line_first xs q inside)) ∙ c.loop-q.invariant
 
 pub loop-q-preserved : goal.loop-q-preserved
@@ -21,8 +21,8 @@ loop-q-preserved c =
     let inside : c.loop-q.q < length c.args.answers.now = omega arith in
     let line = answer_line q (get_or xs q 0) in
     let rest = lines_from (q + 1) (drop (q + 1) xs) in
-    let fits : length line ≤ c.loop-q.left = omega (arith, c.answer-length-length.ensures) in
-    ap (λ n. room_left rest (c.loop-q.left - n)) c.answer-length-length.ensures
+    let fits : length line ≤ c.loop-q.left = omega (arith, c.answer_length-length.ensures) in
+    ap (λ n. room_left rest (c.loop-q.left - n)) c.answer_length-length.ensures
     ∙ room_more line rest c.loop-q.left fits
     ∙ ap (λ l. room_left l c.loop-q.left) (sym (line_first xs q inside))
     ∙ c.loop-q.invariant

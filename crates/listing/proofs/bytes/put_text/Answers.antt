@@ -6,5 +6,5 @@ pub returns : goal.returns
 returns c =
     record {
       end = refl;
-      table = copy_written c.args.at (length c.args.text.now) c.args.out.now c.copy-from-slice.new.self c.args.text.now c.copy-from-slice.ensures.after;
+      table = copy_written c.args.at (length c.args.text.now) c.args.out.now c.copy_from_slice.new.self c.args.text.now c.copy_from_slice.ensures.after;
     }

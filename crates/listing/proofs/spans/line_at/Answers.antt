@@ -12,4 +12,4 @@ returns-in-Fact c =
     let n = c.args.number in
     let f = c.in-Fact.f in
     let e = fact_shown rs n (2 * n) (drop n rs) c.in-Ok.shown f c.in-Ok.ensures c.in-Fact.is in
-    IfOk-weaker c.fact-line.result (λ t. string_bytes t ≡ line_of_span n f (span rs n f)) (λ t. string_bytes t ≡ first_line rs n (drop n rs)) (λ t h. h ∙ sym e) c.fact-line.ensures
+    IfOk-weaker c.fact_line.result (λ t. string_bytes t ≡ line_of_span n f (span rs n f)) (λ t. string_bytes t ≡ first_line rs n (drop n rs)) (λ t h. h ∙ sym e) c.fact_line.ensures

@@ -41,35 +41,35 @@ module _ (rs : List Record) (i asked : ℕ) (ws vs : List ℕ) (b : Bool) (lt : 
       (λ (e : b ≡ false). ap (λ l. get_or l q 0) (new ∙ cond-false _ _ _ e) ∙ old q (omega arith))
       (cases_Bool b)
 
-pub write-number-asked-requires : goal.write-number-asked-requires
-write-number-asked-requires c =
+pub write_number-asked-requires : goal.write_number-asked-requires
+write_number-asked-requires c =
     let rs = records_of c.args.book.now in
-    let lt : c.loop-i.i < length (records_of c.args.book.now) = omega (arith, c.record-count-i-end.ensures) in
+    let lt : c.loop-i.i < length (records_of c.args.book.now) = omega (arith, c.record_count-i-end.ensures) in
     record {
-      room = omega (arith, c.requires, c.loop-i.invariant.0, asked_more rs c.loop-i.i lt, sum_by-take-le (λ r. cond (is_question r) 1 0) rs (c.loop-i.i + 1), ap (λ b. cond {A = ℕ} b 1 0) c.is-question-question.ensures);
-      small = omega (arith, few_records c.args.book.now, c.record-count-i-end.ensures);
+      room = omega (arith, c.requires, c.loop-i.invariant.0, asked_more rs c.loop-i.i lt, sum_by-take-le (λ r. cond (is_question r) 1 0) rs (c.loop-i.i + 1), ap (λ b. cond {A = ℕ} b 1 0) c.is_question-question.ensures);
+      small = omega (arith, few_records c.args.book.now, c.record_count-i-end.ensures);
     }
 
 pub loop-i-preserved : goal.loop-i-preserved
 loop-i-preserved c =
     let rs = records_of c.args.book.now in
-    let b = c.is-question-question.result in
-    let lt : c.loop-i.i < length (records_of c.args.book.now) = omega (arith, c.record-count-i-end.ensures) in
-    let is = c.is-question-question.ensures in
+    let b = c.is_question-question.result in
+    let lt : c.loop-i.i < length (records_of c.args.book.now) = omega (arith, c.record_count-i-end.ensures) in
+    let is = c.is_question-question.ensures in
     let one = ap (λ x. cond {A = ℕ} x 1 0) is in
-    let room : c.loop-i.asked + cond c.is-question-question.result 1 0 ≤ length c.loop-i.answers = omega (arith, c.requires, c.loop-i.invariant.0, asked_more rs c.loop-i.i lt, sum_by-take-le (λ r. cond (is_question r) 1 0) rs (c.loop-i.i + 1), one) in
-    let new = c.write-number-asked.ensures.written in
-    let wrote = c.write-number-asked.ensures.count in (
+    let room : c.loop-i.asked + cond c.is_question-question.result 1 0 ≤ length c.loop-i.answers = omega (arith, c.requires, c.loop-i.invariant.0, asked_more rs c.loop-i.i lt, sum_by-take-le (λ r. cond (is_question r) 1 0) rs (c.loop-i.i + 1), one) in
+    let new = c.write_number-asked.ensures.written in
+    let wrote = c.write_number-asked.ensures.count in (
       omega (arith, wrote, c.loop-i.invariant.0, asked_more rs c.loop-i.i lt, one),
-      λ q h. numbers_more rs c.loop-i.i c.loop-i.asked c.loop-i.answers c.write-number-asked.new.answers b lt is c.loop-i.invariant.0 room new c.loop-i.invariant.1 q (omega (arith, wrote)),
-      λ q h. others_more rs c.loop-i.i c.loop-i.asked c.loop-i.answers c.write-number-asked.new.answers b lt is c.loop-i.invariant.0 room new c.args.answers.now c.loop-i.invariant.2 q (omega (arith, wrote)),
+      λ q h. numbers_more rs c.loop-i.i c.loop-i.asked c.loop-i.answers c.write_number-asked.new.answers b lt is c.loop-i.invariant.0 room new c.loop-i.invariant.1 q (omega (arith, wrote)),
+      λ q h. others_more rs c.loop-i.i c.loop-i.asked c.loop-i.answers c.write_number-asked.new.answers b lt is c.loop-i.invariant.0 room new c.args.answers.now c.loop-i.invariant.2 q (omega (arith, wrote)),
       omega (arith, wrote, c.loop-i.invariant.3, cond_small b),
     )
 
 pub returns : goal.returns
 returns c =
     let rs = records_of c.args.book.now in
-    let past : length (records_of c.args.book.now) ≤ c.loop-i.i = omega (arith, c.record-count-i-end.ensures) in
+    let past : length (records_of c.args.book.now) ≤ c.loop-i.i = omega (arith, c.record_count-i-end.ensures) in
     let all : c.loop-i.asked ≡ question_count (records_of c.args.book.now) = c.loop-i.invariant.0 ∙ ap question_count (take_all c.loop-i.i rs past) in
     record {
       numbers = λ q h. c.loop-i.invariant.1 q (omega arith);

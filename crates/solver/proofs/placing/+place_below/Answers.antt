@@ -1,4 +1,4 @@
-use Rattle.std.proofs.Common.{◌≡◌, ℕ, ◌+◌, ◌-◌, ◌*◌, ◌/◌, ◌<◌, ◌≤◌, ◌⊎◌, List, [], ◌∷◌, ◌++◌, length, sym, ap, ◌∙◌, subst, inl, inr, ⊎_elim, arith, rules}
+use Rattle.std.proofs.Common.{◌≡◌, ℕ, ◌+◌, ◌-◌, ◌*◌, ◌<◌, ◌≤◌, ◌⊎◌, ◌++◌, length, sym, ap, ◌∙◌, subst, inl, inr, ⊎_elim, arith, rules}
 use Rattle.std.proofs.lemmas.List.{length-append}
 use Rattle.solver.specs.Tree.{middle}
 use Rattle.solver.specs.Chains.{Put, numbers_of}
@@ -15,8 +15,8 @@ pub returns-then-hi-s : goal.returns-then-hi-s
 returns-then-hi-s t c =
     subst (λ l. Put c.args.fact l c.args.nodes.now c.args.pieces.now c.args.used c.args.nodes.now c.args.pieces.now c.args.used) (sym (numbers_apart c.args.s c.args.e c.args.at c.args.lo c.args.hi c.requires.node (inr c.if-hi-s.true))) (put_none _ _ _ _ c.requires.linked)
 
-pub put-entry-requires : goal.put-entry-requires
-put-entry-requires t c =
+pub put_entry-requires : goal.put_entry-requires
+put_entry-requires t c =
     let one = numbers_whole c.args.s c.args.e c.args.at c.args.lo c.args.hi c.requires.node c.if-s-lo.true c.if-hi-e.true in
     record {
       linked = c.requires.linked;
@@ -27,7 +27,7 @@ put-entry-requires t c =
 pub returns-then-hi-e : goal.returns-then-hi-e
 returns-then-hi-e t c =
     let one = numbers_whole c.args.s c.args.e c.args.at c.args.lo c.args.hi c.requires.node c.if-s-lo.true c.if-hi-e.true in
-    subst (λ l. Put c.args.fact l c.args.nodes.now c.args.pieces.now c.args.used c.put-entry.new.nodes c.put-entry.new.pieces c.put-entry.result) (sym one) c.put-entry.ensures
+    subst (λ l. Put c.args.fact l c.args.nodes.now c.args.pieces.now c.args.used c.put_entry.new.nodes c.put_entry.new.pieces c.put_entry.result) (sym one) c.put_entry.ensures
 
 -- the node is not inside, and has two questions at least
 off : (t : ℕ) (c : Joined-else-s-lo t) → (c.args.lo < c.args.s) ⊎ (c.args.e < c.args.hi)
@@ -42,24 +42,24 @@ split t c = numbers_parts c.args.s c.args.e c.args.at c.args.lo c.args.hi c.requ
 total : (t : ℕ) (c : Joined-else-s-lo t) → length (numbers_of (c.args.s, c.args.e) c.args.at c.args.lo c.args.hi) ≡ length (numbers_of (c.args.s, c.args.e) (c.args.at + 1) c.args.lo (middle c.args.lo c.args.hi)) + length (numbers_of (c.args.s, c.args.e) (c.args.at + 2 * (middle c.args.lo c.args.hi - c.args.lo)) (middle c.args.lo c.args.hi) c.args.hi)
 total t c = ap length (split t c) ∙ length-append (numbers_of (c.args.s, c.args.e) (c.args.at + 1) c.args.lo (middle c.args.lo c.args.hi)) (numbers_of (c.args.s, c.args.e) (c.args.at + 2 * (middle c.args.lo c.args.hi - c.args.lo)) (middle c.args.lo c.args.hi) c.args.hi)
 
-pub place-below-more-requires : goal.place-below-more-requires
-place-below-more-requires t c =
-    let d = (goal.at.place-below-more-requires t c).Joined-else-s-lo in
+pub place_below-more-requires : goal.place_below-more-requires
+place_below-more-requires t c =
+    let d = (goal.at.place_below-more-requires t c).Joined-else-s-lo in
     let w = two t d in (
       search rules,
-      (omega (arith, w), (c.requires.linked, (omega (arith, w, c.requires.numbered), (c.requires.few.0, (c.requires.few.1, omega (arith, c.requires.room, total t d)))))),
+      (omega (arith, w), (c.requires.linked, (omega (arith, w, c.requires.numbered), ((c.requires.few.0, c.requires.few.1), omega (arith, c.requires.room, total t d))))),
     )
 
-pub place-below-requires : goal.place-below-requires
-place-below-requires t c =
-    let d = (goal.at.place-below-requires t c).Joined-else-s-lo in
+pub place_below-requires : goal.place_below-requires
+place_below-requires t c =
+    let d = (goal.at.place_below-requires t c).Joined-else-s-lo in
     let w = two t d in (
       search rules,
       (
         omega (arith, w),
         (
-          c.place-below-more.ensures.linked,
-          (omega (arith, w, c.requires.numbered), (omega (arith, c.requires.few.0), (omega (arith, c.requires.few.1), omega (arith, c.requires.room, total t d, c.place-below-more.ensures.count)))),
+          c.place_below-more.ensures.linked,
+          (omega (arith, w, c.requires.numbered), ((omega (arith, c.requires.few.0), omega (arith, c.requires.few.1)), omega (arith, c.requires.room, total t d, c.place_below-more.ensures.count))),
         ),
       ),
     )
@@ -67,4 +67,4 @@ place-below-requires t c =
 pub returns : goal.returns
 returns t c =
     let d = (goal.at.returns t c).Joined-else-s-lo in
-    subst (λ l. Put c.args.fact l c.args.nodes.now c.args.pieces.now c.args.used c.place-below.new.nodes c.place-below.new.pieces c.place-below.result) (sym (split t d)) (put_both _ _ _ _ _ _ _ _ _ _ _ _ c.place-below-more.ensures c.place-below.ensures)
+    subst (λ l. Put c.args.fact l c.args.nodes.now c.args.pieces.now c.args.used c.place_below.new.nodes c.place_below.new.pieces c.place_below.result) (sym (split t d)) (put_both _ _ _ _ _ _ _ _ _ _ _ _ c.place_below-more.ensures c.place_below.ensures)

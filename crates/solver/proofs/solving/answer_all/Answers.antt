@@ -1,4 +1,4 @@
-use Rattle.std.proofs.Common.{◌≡◌, ℕ, ◌+◌, ◌-◌, ◌*◌, ◌%◌, ◌^◌, ◌<◌, ◌≤◌, min, List, ◌++◌, map, length, get_or, drop, sym, refl, ap, ◌∙◌, ⊎_elim, arith}
+use Rattle.std.proofs.Common.{◌≡◌, ℕ, ◌+◌, ◌-◌, ◌*◌, ◌<◌, ◌≤◌, List, ◌++◌, map, length, get_or, drop, sym, refl, ap, ◌∙◌, ⊎_elim, arith}
 use Rattle.std.specs.List.{range_with_len}
 use Rattle.std.proofs.lemmas.List.FromFn.{length-map-range_with_len, get_or-map-range_with_len}
 use Rattle.std.proofs.lemmas.List.{ext_get_or, length-append, length-drop, length-take, get_or_append_left, get_or-append_right, get_or-drop}
@@ -34,33 +34,33 @@ returns-then-t-eq0 g c =
     let k = g.U.Undoable.kind c.args.structure.now in
     let st = g.U.Undoable.stack c.args.structure.now in
     let rs = records_of c.args.book.now in
-    let none : question_count (records_of c.args.book.now) ≡ 0 = omega (arith, c.question-count-t.ensures, c.if-t-eq0.true) in
+    let none : question_count (records_of c.args.book.now) ≡ 0 = omega (arith, c.question_count-t.ensures, c.if-t-eq0.true) in
     record {
       answers = sym (λ i. map (answer_at k st rs) (range_with_len 0 (none i)) ++ drop (none i) c.args.answers.now);
       stack = refl;
-      tally = omega (arith, no_pieces rs none, c.tally.ensures, c.tally.type-inv);
+      tally = omega (arith, no_pieces rs none, c.tally.ensures, c.tally.type_inv);
       kind = refl;
     }
 
-pub answer-in-requires : goal.answer-in-requires
-answer-in-requires g c =
+pub answer_in-requires : goal.answer_in-requires
+answer_in-requires g c =
     let few : question_count (records_of c.args.book.now) ≤ 4096 = omega (arith, count_by-le-length is_question (records_of c.args.book.now), few_records c.args.book.now) in
     let a = c.requires.accepted in
-    let n = length-take (4 * c.question-count-t.result - 0) c.args.nodes.now in
+    let n = length-take (4 * c.question_count-t.result - 0) c.args.nodes.now in
     let p = length-take (2 * c.args.additions - 0) c.args.pieces.now in
     record {
-      some = omega (arith, c.question-count-t.ensures, c.if-t-eq0.false);
+      some = omega (arith, c.question_count-t.ensures, c.if-t-eq0.false);
       accepted = record {
         long = omega (arith, a.long);
         fit = a.fit;
         spans_long = a.spans_long;
-        nodes_long = omega (arith, a.nodes_long, c.question-count-t.ensures, n);
+        nodes_long = omega (arith, a.nodes_long, c.question_count-t.ensures, n);
         pieces_long = omega (arith, a.pieces_long, c.requires.total.0, p);
         room = a.room;
       };
-      small = (omega (arith, n, few, c.question-count-t.ensures), omega (arith, p, c.requires.total.1));
+      small = (omega (arith, n, few, c.question_count-t.ensures), omega (arith, p, c.requires.total.1));
       tabled = c.requires.tabled;
-      numbered = c.number-questions.ensures.numbers;
+      numbered = c.number_questions.ensures.numbers;
     }
 
 pub returns : goal.returns
@@ -69,8 +69,8 @@ returns g c =
     let st = g.U.Undoable.stack c.args.structure.now in
     let rs = records_of c.args.book.now in
     record {
-      answers = answered k st rs c.args.answers.now c.answer-in.new.answers (omega arith) c.requires.accepted.long c.answer-in.ensures.told (λ q h. c.answer-in.ensures.others q h ∙ c.number-questions.ensures.others q h);
-      stack = c.answer-in.ensures.stack;
-      tally = c.answer-in.ensures.tally;
-      kind = c.answer-in.ensures.kind;
+      answers = answered k st rs c.args.answers.now c.answer_in.new.answers (omega arith) c.requires.accepted.long c.answer_in.ensures.told (λ q h. c.answer_in.ensures.others q h ∙ c.number_questions.ensures.others q h);
+      stack = c.answer_in.ensures.stack;
+      tally = c.answer_in.ensures.tally;
+      kind = c.answer_in.ensures.kind;
     }

@@ -26,6 +26,6 @@ returns t c =
     let off : (c.args.lo < c.args.s) ⊎ (c.args.e < c.args.hi) = elim c.else-s-lo.branch [ else-s-lo-via-then-s-lo+else-hi-e w ↦ inr w.if-hi-e.false | else-s-lo-via-else-s-lo w ↦ inl w.if-s-lo.false ] in
     let two : 2 ≤ c.args.hi - c.args.lo = ⊎_elim (λ (a : c.args.lo < c.args.s). omega arith) (λ (b : c.args.e < c.args.hi). omega arith) off in
     record {
-      count = count_parts c.args.s c.args.e c.args.lo c.args.hi c.requires off two c.count-below.result c.count-below-2.result c.count-below.ensures.count c.count-below-2.ensures.count;
-      most = omega (arith, c.count-below.ensures.most, c.count-below-2.ensures.most);
+      count = count_parts c.args.s c.args.e c.args.lo c.args.hi c.requires off two c.count_below.result c.count_below-2.result c.count_below.ensures.count c.count_below-2.ensures.count;
+      most = omega (arith, c.count_below.ensures.most, c.count_below-2.ensures.most);
     }

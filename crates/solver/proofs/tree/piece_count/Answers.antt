@@ -1,4 +1,4 @@
-use Rattle.std.proofs.Common.{◌≡◌, ℕ, ◌<◌, ◌≤◌, ltb, List, [], map, length, None, filter, sym, refl, ap, ◌∙◌, arith}
+use Rattle.std.proofs.Common.{ℕ, ◌<◌, ltb, [], map, length, None, filter, sym, refl, ap, ◌∙◌, arith}
 use Rattle.std.proofs.lemmas.Bool.{cond-true, lt-ltb}
 use Rattle.solver.specs.Tree.{Placed, is_piece, nodes_from, pieces_of, WorkedPieces}
 use Rattle.solver.proofs.Bounding.{pieces_few}
@@ -23,8 +23,8 @@ returns c =
     let some : 0 < c.args.t = omega arith in
     let x : ℕ × ℕ = (c.args.s, c.args.e) in
     record {
-      result = c.count-below.ensures.count t None refl (omega arith) ∙ sym (ap (λ l. length (map (λ (v : Placed). v.node) (filter (is_piece x) l))) (cond-true (ltb 0 t) (nodes_from t None 0 t) [] (lt-ltb 0 t some)));
-      most = omega (arith, c.count-below.ensures.most);
+      result = c.count_below.ensures.count t None refl (omega arith) ∙ sym (ap (λ l. length (map (λ (v : Placed). v.node) (filter (is_piece x) l))) (cond-true (ltb 0 t) (nodes_from t None 0 t) [] (lt-ltb 0 t some)));
+      most = omega (arith, c.count_below.ensures.most);
       partition = pieces_partition;
       few = pieces_few;
       worked = worked;

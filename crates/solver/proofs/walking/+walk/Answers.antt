@@ -1,20 +1,20 @@
-use Rattle.std.proofs.Common.{◌≡◌, ℕ, ◌+◌, ◌-◌, ◌*◌, ◌/◌, ◌%◌, ◌^◌, ◌<◌, ◌≤◌, ◌≢◌, ◌⊎◌, List, map, length, get_or, set, sym, refl, ap, ◌∙◌, subst, inl, inr, ⊎_elim, arith, rules}
+use Rattle.std.proofs.Common.{◌≡◌, ℕ, ◌+◌, ◌-◌, ◌*◌, ◌<◌, ◌≤◌, ◌≢◌, List, length, get_or, set, sym, ap, ◌∙◌, subst, inl, inr, ⊎_elim, arith, rules}
 use Rattle.std.proofs.lemmas.List.{length-map, get_or-set_same, get_or-set_other}
 use Rattle.std.proofs.lemmas.Bool.{cases_lt}
 use Rattle.book.specs.View.{records_of}
 use Rattle.undoable.specs.declared.facts.Fact.{Fact}
 use Rattle.undoable.specs.Calls.{cut_to}
-use Rattle.undoable.specs.Kinds.{Kind, Admitted}
+use Rattle.undoable.specs.Kinds.{Admitted}
 use Rattle.solver.specs.Chains.{facts_at}
 use Rattle.solver.specs.Tree.{middle}
-use Rattle.solver.specs.Walks.{numbered_fact, numbered_question, node_facts, onto, stack_to, weight}
+use Rattle.solver.specs.Walks.{numbered_fact, numbered_question, node_facts, stack_to}
 use Rattle.solver.proofs.Levels.{length-onto, cut-onto, stack_above, stack_leaf, stack_left, stack_right, weight_leaf, weight_parts}
 use Rattle.solver.proofs.walking.+walk.Given as given
 use Rattle.solver.proofs.walking.+walk.Goals as goal
-use Rattle.solver.proofs.walking.+walk.Goals.{After-take-mark-mark, After-push-chain}
+use Rattle.solver.proofs.walking.+walk.Goals.{After-take_mark-mark, After-push_chain}
 
 -- the facts of each node, and how many the node's own are
-module _ (g : given.Over) (t : ℕ) (c : After-take-mark-mark g t) where
+module _ (g : given.Over) (t : ℕ) (c : After-take_mark-mark g t) where
   abbrev G : ℕ → List Fact
   G m = node_facts (records_of c.args.book.now) c.args.nodes.now c.args.pieces.now m
 
@@ -24,9 +24,9 @@ module _ (g : given.Over) (t : ℕ) (c : After-take-mark-mark g t) where
   own : length (G c.args.at) ≡ length (facts_at c.args.nodes.now c.args.pieces.now c.args.at)
   own = length-map (facts_at c.args.nodes.now c.args.pieces.now c.args.at) (numbered_fact (records_of c.args.book.now))
 
-pub push-chain-requires : goal.push-chain-requires
-push-chain-requires g t c =
-    let d = (goal.at.push-chain-requires g t c).After-take-mark-mark in
+pub push_chain-requires : goal.push_chain-requires
+push_chain-requires g t c =
+    let d = (goal.at.push_chain-requires g t c).After-take_mark-mark in
     let u = c.requires.linked in
     record {
       linked = (u.0, u.1.nexts, u.1.heads c.args.at, u.2);
@@ -36,33 +36,33 @@ push-chain-requires g t c =
 
 pub returns-then-hi-lo-lt2 : goal.returns-then-hi-lo-lt2
 returns-then-hi-lo-lt2 g t c =
-    let d = (goal.at.returns-then-hi-lo-lt2 g t c).After-take-mark-mark in
+    let d = (goal.at.returns-then-hi-lo-lt2 g t c).After-take_mark-mark in
     let at = c.args.at in
     let lo = c.args.lo in
     let hi = c.args.hi in
     let one = c.if-hi-lo-lt2.true in
     record {
-      stack = c.roll-back.ensures.stack ∙ (λ i. cut_to (c.take-mark-mark.ensures i) (c.push-chain.ensures.stack i)) ∙ cut-onto (G g t d at) (s0 g t d);
-      tally = omega (arith, c.roll-back.ensures.tally, c.push-chain.ensures.tally, weight_leaf (G g t d) at lo hi c.requires.node one, own g t d);
-      kind = c.roll-back.ensures.kind ∙ c.push-chain.ensures.kind;
+      stack = c.roll_back.ensures.stack ∙ (λ i. cut_to (c.take_mark-mark.ensures i) (c.push_chain.ensures.stack i)) ∙ cut-onto (G g t d at) (s0 g t d);
+      tally = omega (arith, c.roll_back.ensures.tally, c.push_chain.ensures.tally, weight_leaf (G g t d) at lo hi c.requires.node one, own g t d);
+      kind = c.roll_back.ensures.kind ∙ c.push_chain.ensures.kind;
       told = λ q a b.
           let here : q ≡ c.args.lo = omega (arith, one) in
           let lt : c.args.lo < length c.args.answers.now = omega (arith, c.requires.within, c.requires.node) in
           ap (λ x. get_or (set c.args.answers.now lo c.answer-told.result) x 0) here
           ∙ get_or-set_same c.args.answers.now lo c.answer-told.result 0 lt
           ∙ c.answer-told.ensures
-          ∙ (λ i. (c.push-chain.ensures.kind i).rule ((c.push-chain.ensures.stack ∙ sym (stack_leaf (G g t d) at lo hi c.requires.node one q (s0 g t d))) i) (numbered_question (records_of c.args.book.now) (get_or c.args.answers.now (sym here i) 0)));
+          ∙ (λ i. (c.push_chain.ensures.kind i).rule ((c.push_chain.ensures.stack ∙ sym (stack_leaf (G g t d) at lo hi c.requires.node one q (s0 g t d))) i) (numbered_question (records_of c.args.book.now) (get_or c.args.answers.now (sym here i) 0)));
       others = λ q off. let ne : q ≢ c.args.lo = ⊎_elim (λ (a : q < c.args.lo). omega arith) (λ (b : c.args.hi ≤ q). omega (arith, c.requires.node)) off in get_or-set_other c.args.answers.now lo q c.answer-told.result 0 ne;
     }
 
 pub walk-requires : goal.walk-requires
 walk-requires g t c κs within =
-    let d = (goal.at.walk-requires g t c).After-take-mark-mark in
+    let d = (goal.at.walk-requires g t c).After-take_mark-mark in
     let at = c.args.at in
     let lo = c.args.lo in
     let hi = c.args.hi in
     let two = c.if-hi-lo-lt2.false in
-    let e = c.push-chain.ensures.kind in (
+    let e = c.push_chain.ensures.kind in (
       search rules,
       (
         within,
@@ -83,7 +83,7 @@ walk-requires g t c κs within =
                           arith,
                           c.requires.room q a (omega (arith, two)),
                           ap length (stack_left (G g t d) at lo hi c.requires.node two q (s0 g t d) b),
-                          ap (λ s. length (stack_to (G g t d) (at + 1) lo (middle lo hi) q s)) c.push-chain.ensures.stack,
+                          ap (λ s. length (stack_to (G g t d) (at + 1) lo (middle lo hi) q s)) c.push_chain.ensures.stack,
                           ap (λ k. k.capacity) e,
                         ),
                   ),
@@ -98,13 +98,13 @@ walk-requires g t c κs within =
 -- the first half leaves the questions of the second
 pub walk-requires-2 : goal.walk-requires-2
 walk-requires-2 g t c κs within =
-    let d = (goal.at.walk-requires-2 g t c).After-take-mark-mark in
+    let d = (goal.at.walk-requires-2 g t c).After-take_mark-mark in
     let at = c.args.at in
     let lo = c.args.lo in
     let hi = c.args.hi in
     let two = c.if-hi-lo-lt2.false in
-    let e = c.walk.ensures.kind ∙ c.push-chain.ensures.kind in
-    let st = c.walk.ensures.stack ∙ c.push-chain.ensures.stack in (
+    let e = c.walk.ensures.kind ∙ c.push_chain.ensures.kind in
+    let st = c.walk.ensures.stack ∙ c.push_chain.ensures.stack in (
       search rules,
       (
         within,
@@ -140,20 +140,20 @@ walk-requires-2 g t c κs within =
 
 pub returns : goal.returns
 returns g t c =
-    let d = (goal.at.returns g t c).After-take-mark-mark in
+    let d = (goal.at.returns g t c).After-take_mark-mark in
     let at = c.args.at in
     let lo = c.args.lo in
     let hi = c.args.hi in
     let rs = records_of c.args.book.now in
     let two = c.if-hi-lo-lt2.false in
-    let e1 = c.push-chain.ensures.kind in
+    let e1 = c.push_chain.ensures.kind in
     let e2 = c.walk.ensures.kind ∙ e1 in
-    let st1 = c.push-chain.ensures.stack in
+    let st1 = c.push_chain.ensures.stack in
     let st2 = c.walk.ensures.stack ∙ st1 in
     record {
-      stack = c.roll-back-2.ensures.stack ∙ (λ i. cut_to (c.take-mark-mark.ensures i) ((c.walk-2.ensures.stack ∙ st2) i)) ∙ cut-onto (G g t d at) (s0 g t d);
-      tally = omega (arith, c.roll-back-2.ensures.tally, c.walk-2.ensures.tally, c.walk.ensures.tally, c.push-chain.ensures.tally, weight_parts (G g t d) at lo hi c.requires.node two, own g t d);
-      kind = c.roll-back-2.ensures.kind ∙ c.walk-2.ensures.kind ∙ e2;
+      stack = c.roll_back-2.ensures.stack ∙ (λ i. cut_to (c.take_mark-mark.ensures i) ((c.walk-2.ensures.stack ∙ st2) i)) ∙ cut-onto (G g t d at) (s0 g t d);
+      tally = omega (arith, c.roll_back-2.ensures.tally, c.walk-2.ensures.tally, c.walk.ensures.tally, c.push_chain.ensures.tally, weight_parts (G g t d) at lo hi c.requires.node two, own g t d);
+      kind = c.roll_back-2.ensures.kind ∙ c.walk-2.ensures.kind ∙ e2;
       told = λ q a b.
           ⊎_elim
           (λ (h : q < middle lo hi).

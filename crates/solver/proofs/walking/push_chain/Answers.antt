@@ -1,4 +1,4 @@
-use Rattle.std.proofs.Common.{◌≡◌, ℕ, ◌+◌, ◌-◌, ◌*◌, ◌%◌, ◌^◌, ◌<◌, ◌≤◌, true, List, [], ◌∷◌, map, length, get_or, sym, ap, ◌∙◌, subst, arith}
+use Rattle.std.proofs.Common.{◌≡◌, ℕ, ◌+◌, ◌-◌, ◌*◌, ◌%◌, ◌^◌, ◌<◌, true, List, ◌∷◌, map, length, get_or, sym, ap, ◌∙◌, subst, arith}
 use Rattle.book.specs.View.{records_of}
 use Rattle.undoable.specs.declared.facts.Fact.{Fact}
 use Rattle.undoable.specs.Kinds.{Admitted, Kind}
@@ -39,17 +39,17 @@ module _ (g : given.Over) (c : After-push g) where
   all : Admitted (g.U.Undoable.kind c.args.structure.now) (f ∷ map F (chain after ps after))
   all = subst (λ l. Admitted (g.U.Undoable.kind c.args.structure.now) (map F l)) links c.loop-next.invariant.3
 
-  admitted : k.admits c.fact-number-fact.result ≡ true
-  admitted = (λ i. (c.loop-next.invariant.2 i).admits (c.fact-number-fact.ensures i)) ∙ all.0
+  admitted : k.admits c.fact_number-fact.result ≡ true
+  admitted = (λ i. (c.loop-next.invariant.2 i).admits (c.fact_number-fact.ensures i)) ∙ all.0
 
   room : length st < k.capacity
   room = omega (arith, c.loop-next.invariant.4, ap length links, ap (λ x. x.capacity) c.loop-next.invariant.2)
 
   stack_now : g.U.Undoable.stack c.push.new.self ≡ f ∷ st
-  stack_now = c.push.ensures.stack ∙ push_stack_lem k st c.fact-number-fact.result admitted room ∙ ap (λ x. x ∷ st) c.fact-number-fact.ensures
+  stack_now = c.push.ensures.stack ∙ push_stack_lem k st c.fact_number-fact.result admitted room ∙ ap (λ x. x ∷ st) c.fact_number-fact.ensures
 
   tally_now : g.U.Undoable.pushes c.push.new.self ≡ (g.U.Undoable.pushes c.loop-next.structure + 1) % 2 ^ 32
-  tally_now = c.push.ensures.tally ∙ push_tally_lem k st c.fact-number-fact.result admitted room (g.U.Undoable.pushes c.loop-next.structure)
+  tally_now = c.push.ensures.tally ∙ push_tally_lem k st c.fact_number-fact.result admitted room (g.U.Undoable.pushes c.loop-next.structure)
 
 pub loop-next-preserved : goal.loop-next-preserved
 loop-next-preserved g c =
