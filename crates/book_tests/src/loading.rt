@@ -23,7 +23,7 @@ fn refuses(rt: &impl Abort, words: &[u32], error: LoadError) -> Result<(), Fail>
     book.enter_fact(fact(10, 1))?;
     assert_eq!(rt; book.load(words), Err(error));
     assert_eq!(rt; book.record_count(), 1);
-    assert_eq!(rt; book.words(), &[HEAD, SECOND]);
+    assert_eq!(rt; book.words(), [HEAD, SECOND].as_slice());
     Ok(())
 }
 
@@ -38,7 +38,7 @@ fn put_heads(words: &mut [u32], head: u32) {
 fn record_is_written_as_two_words(rt: HostRuntime) -> Result<(), Fail> {
     let mut book = Book::new();
     book.enter_fact(fact(10, 1))?;
-    assert_eq!(rt; book.words(), &[0x2000_000A, 0x8000_0001]);
+    assert_eq!(rt; book.words(), [0x2000_000A, 0x8000_0001].as_slice());
     Ok(())
 }
 

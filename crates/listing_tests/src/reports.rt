@@ -1,25 +1,33 @@
 // What `bookspans` answers to small and damaged inputs.
 use listing::book_report;
-use std::test::*;
+use std::alloc::Global;
+use std::process::Abort;
+use std::test::Fail;
 
 // Fact (10, 1) and a question.
 const BOOK: [u8; 16] = [10, 0, 0, 0x20, 1, 0, 0, 0x80, 7, 0, 0, 0x60, 0, 0, 0, 0x80];
 
-fn answers(rt: HostRuntime, bytes: &[u8], text: &str) -> Result<(), Fail> {
-    let report = book_report(rt.alloc(), bytes)?;
-    assert!(report.as_str() == text);
+fn answers(rt: &impl Abort, alloc: Global, bytes: &[u8], text: &str) -> Result<(), Fail> {
+    let report = book_report(alloc, bytes)?;
+    assert!(rt; report.as_str() == text);
     Ok(())
 }
 
 #[test]
 fn empty_input(rt: HostRuntime) -> Result<(), Fail> {
-    answers(rt, &[], "facts 0\nwithdrawals 0\nquestions 0\ndeepest 0\n")
+    answers(
+        &rt,
+        rt.alloc(),
+        &[],
+        "facts 0\nwithdrawals 0\nquestions 0\ndeepest 0\n",
+    )
 }
 
 #[test]
 fn one_fact(rt: HostRuntime) -> Result<(), Fail> {
     answers(
-        rt,
+        &rt,
+        rt.alloc(),
         &BOOK,
         "record 0 fact 10 1 span 0 1\nfacts 1\nwithdrawals 0\nquestions 1\ndeepest 1\n",
     )
@@ -27,13 +35,14 @@ fn one_fact(rt: HostRuntime) -> Result<(), Fail> {
 
 #[test]
 fn head_at_the_end(rt: HostRuntime) -> Result<(), Fail> {
-    answers(rt, &BOOK[0..12], "refused 6 at 3\n")
+    answers(&rt, rt.alloc(), &BOOK[0..12], "refused 6 at 3\n")
 }
 
 #[test]
 fn three_stray_bytes(rt: HostRuntime) -> Result<(), Fail> {
     answers(
-        rt,
+        &rt,
+        rt.alloc(),
         &BOOK[0..11],
         "record 0 fact 10 1 span 0 0\nfacts 1\nwithdrawals 0\nquestions 0\ndeepest 0\n",
     )
@@ -41,5 +50,5 @@ fn three_stray_bytes(rt: HostRuntime) -> Result<(), Fail> {
 
 #[test]
 fn second_word_first(rt: HostRuntime) -> Result<(), Fail> {
-    answers(rt, &BOOK[4..16], "refused 5 at 0\n")
+    answers(&rt, rt.alloc(), &BOOK[4..16], "refused 5 at 0\n")
 }
