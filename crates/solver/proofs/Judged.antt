@@ -1,6 +1,6 @@
 -- Which test of solve refuses, and what is known if none does.
 use Rattle.std.proofs.Common.{◌≡◌, ℕ, ◌*◌, ◌<◌, ◌≤◌, cond, ltb, List, [], ◌∷◌, length, Some, None, Ok, Err, sum_by, Option, Result, sym, refl, ap, ◌∙◌, ⊎_elim, arith}
-use Rattle.std.specs.List.{AllByRecursion as All}
+use Rattle.std.specs.List.{AllByRecursion}
 use Rattle.std.proofs.lemmas.List.Sums.{sum_by-cons}
 use Rattle.std.proofs.ByRecursion.{sum_by_le}
 use Rattle.std.proofs.lemmas.Bool.{cases_lt, cond-true, cond-false, lt-ltb, le-ltb}
@@ -69,7 +69,7 @@ module _ (k : Kind) (st : List Fact) (rs : List Record) (z : Sizes) where
 pub pieces_most : (rs : List Record) (m : ℕ) → ((s e : ℕ) → length (pieces_of (question_count rs) (s, e)) ≤ m) → piece_total rs ≤ fact_count rs * m
 pieces_most rs m each = omega (arith, sum_by_le (λ (x : Entry). length (pieces_of (question_count rs) (span rs x.number x.fact))) m (entries_from 0 rs) (all (entries_from 0 rs)), ap (λ n. n * m) (entered_count 0 rs))
   where
-    all : (xs : List Entry) → All (λ (x : Entry). length (pieces_of (question_count rs) (span rs x.number x.fact)) ≤ m) xs
+    all : (xs : List Entry) → AllByRecursion (λ (x : Entry). length (pieces_of (question_count rs) (span rs x.number x.fact)) ≤ m) xs
     all [] = tt
     all (x ∷ xs) = (each (span rs x.number x.fact).0 (span rs x.number x.fact).1, all xs)
 

@@ -1,6 +1,6 @@
 -- The stack at a question holds, equally often, the facts alive there and those that it held before.
 use Rattle.std.proofs.Common.{◌≡◌, ℕ, zero, suc, ◌+◌, ◌-◌, ◌<◌, Bool, true, false, cond, ◌&&◌, ltb, leb, List, [], ◌∷◌, ◌++◌, map, length, drop, sum_by, filter, sym, refl, ap, ◌∙◌, ⊎_elim, arith}
-use Rattle.std.specs.List.{AllByRecursion as All}
+use Rattle.std.specs.List.{AllByRecursion}
 use Rattle.std.proofs.lemmas.List.Sums.{sum_by-cons, sum_by-append}
 use Rattle.std.proofs.lemmas.Bool.{cases_Bool, cond-true, cond-false}
 use Rattle.undoable.specs.declared.facts.Fact.{Fact}
@@ -35,7 +35,7 @@ tail_drop (suc n) [] y ys e = let z : ◌≡◌ {A = ℕ} 0 1 = cc in absurd (om
 tail_drop (suc n) (x ∷ xs) y ys e = tail_drop n xs y ys e
 
 -- the facts of a book under their record numbers
-entries_facts : (rs : List Record) (n : ℕ) (l : List Record) → drop n rs ≡ l → All (λ (x : Entry). numbered_fact rs x.number ≡ x.fact) (entries_from n l)
+entries_facts : (rs : List Record) (n : ℕ) (l : List Record) → drop n rs ≡ l → AllByRecursion (λ (x : Entry). numbered_fact rs x.number ≡ x.fact) (entries_from n l)
 entries_facts rs n [] e = tt
 entries_facts rs n (is.Fact f ∷ l) e = (ap first_fact e, entries_facts rs (suc n) l (tail_drop n rs (is.Fact f) l e))
 entries_facts rs n (is.Withdrawal f ∷ l) e = entries_facts rs (suc n) l (tail_drop n rs (is.Withdrawal f) l e)
@@ -56,7 +56,7 @@ module _ (rs : List Record) (q : ℕ) (f : Fact) where
   neither true = refl
   neither false = refl
 
-  kept_times : (xs : List Entry) → All (λ (x : Entry). numbered_fact rs x.number ≡ x.fact) xs → sum_by counted xs ≡ times f (map (λ x. x.fact) (filter held xs))
+  kept_times : (xs : List Entry) → AllByRecursion (λ (x : Entry). numbered_fact rs x.number ≡ x.fact) xs → sum_by counted xs ≡ times f (map (λ x. x.fact) (filter held xs))
   kept_times [] a = refl
   kept_times (x ∷ xs) a =
       let rest = kept_times xs a.1 in

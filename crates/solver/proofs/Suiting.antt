@@ -1,6 +1,6 @@
 -- If no record is unfit, all facts of the book are admitted: those alive at a question, and those laid at a node.
 use Rattle.std.proofs.Common.{◌≡◌, ℕ, zero, suc, ◌+◌, ◌<◌, ◌≤◌, Bool, true, false, not, List, [], ◌∷◌, map, length, drop, replicate, Some, None, sym, refl, ap, ◌∙◌, subst, ⊎_elim, arith}
-use Rattle.std.specs.List.{AllByRecursion as All}
+use Rattle.std.specs.List.{AllByRecursion}
 use Rattle.std.proofs.ByRecursion.{All-append, All-map, all_kept_by}
 use Rattle.std.proofs.lemmas.List.{drop_all}
 use Rattle.std.proofs.lemmas.Bool.{cases_lt, cases_Bool, cond-true, cond-false}
@@ -46,28 +46,28 @@ module _ (k : Kind) (rs : List Record) (none : first_unsuited k rs ≡ None) whe
   abbrev Fit : Spanned → Type 0
   Fit x = k.admits (numbered_fact rs x.number) ≡ true
 
-  with_fit : (n : ℕ) (l : List Record) → drop n rs ≡ l → first_suits k l ≡ true → (xs : List Spanned) → All Fit xs → All Fit (with_span n (span_if rs n (fact_within l)) xs)
+  with_fit : (n : ℕ) (l : List Record) → drop n rs ≡ l → first_suits k l ≡ true → (xs : List Spanned) → AllByRecursion Fit xs → AllByRecursion Fit (with_span n (span_if rs n (fact_within l)) xs)
   with_fit n [] e s xs a = a
   with_fit n (is.Fact f ∷ l) e s xs a = (ap (λ y. k.admits (first_fact y)) e ∙ s, a)
   with_fit n (is.Withdrawal f ∷ l) e s xs a = a
   with_fit n (is.Question q ∷ l) e s xs a = a
 
-  spanned_fit : (n : ℕ) → All Fit (spanned_in rs n)
+  spanned_fit : (n : ℕ) → AllByRecursion Fit (spanned_in rs n)
   spanned_fit zero = tt
   spanned_fit (suc n) = with_fit n (drop n rs) refl (all_suit n) (spanned_in rs n) (spanned_fit n)
 
-  copies_fit : (c i : ℕ) → k.admits (numbered_fact rs i) ≡ true → All (λ j. k.admits (numbered_fact rs j) ≡ true) (replicate c i)
+  copies_fit : (c i : ℕ) → k.admits (numbered_fact rs i) ≡ true → AllByRecursion (λ j. k.admits (numbered_fact rs j) ≡ true) (replicate c i)
   copies_fit zero i h = tt
   copies_fit (suc c) i h = (h, copies_fit c i h)
 
-  numbers_fit : (t : ℕ) (xs : List Spanned) → All Fit xs → (m : ℕ) → All (λ j. k.admits (numbered_fact rs j) ≡ true) (laid t xs m)
+  numbers_fit : (t : ℕ) (xs : List Spanned) → AllByRecursion Fit xs → (m : ℕ) → AllByRecursion (λ j. k.admits (numbered_fact rs j) ≡ true) (laid t xs m)
   numbers_fit t [] a m = tt
   numbers_fit t (x ∷ xs) a m = All-append _ (replicate (times_in m (numbers_of x.span 0 0 t)) x.number) (laid t xs m) (copies_fit (times_in m (numbers_of x.span 0 0 t)) x.number a.0) (numbers_fit t xs a.1 m)
 
   pub laid_admitted : (t n m : ℕ) → Admitted k (map (numbered_fact rs) (laid t (spanned_in rs n) m))
   laid_admitted t n m = All-map (λ f. k.admits f ≡ true) (numbered_fact rs) (laid t (spanned_in rs n) m) (numbers_fit t (spanned_in rs n) (spanned_fit n) m)
 
-entries_fit : (k : Kind) (n : ℕ) (rs : List Record) → ((i : ℕ) → first_suits k (drop i rs) ≡ true) → All (λ x. k.admits x.fact ≡ true) (entries_from n rs)
+entries_fit : (k : Kind) (n : ℕ) (rs : List Record) → ((i : ℕ) → first_suits k (drop i rs) ≡ true) → AllByRecursion (λ x. k.admits x.fact ≡ true) (entries_from n rs)
 entries_fit k n [] s = tt
 entries_fit k n (is.Fact f ∷ rs) s = (s 0, entries_fit k (suc n) rs (λ i. s (suc i)))
 entries_fit k n (is.Withdrawal f ∷ rs) s = entries_fit k (suc n) rs (λ i. s (suc i))

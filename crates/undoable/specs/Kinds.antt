@@ -1,6 +1,6 @@
 -- The meaning of an undoable structure, as far as it never changes, and the law that every kind owes.
 use Rattle.std.specs.Prelude.{◌≡◌, ℕ, Bool, true, ◌&&◌, List, [], ◌∷◌, count_by, ◌==◌}
-use Rattle.std.specs.List.{AllByRecursion as All}
+use Rattle.std.specs.List.{AllByRecursion}
 use Rattle.undoable.specs.declared.facts.Fact.{Fact}
 use Rattle.undoable.specs.declared.facts.Question.{Question}
 
@@ -25,7 +25,7 @@ EquallyOften xs ys = (f : Fact) → times f xs ≡ times f ys
 
 -- every fact of a list is admitted
 abbrev pub Admitted : Kind → List Fact → Type 0
-Admitted k xs = All (λ f. k.admits f ≡ true) xs
+Admitted k xs = AllByRecursion (λ f. k.admits f ≡ true) xs
 
 -- the same as a test, for a structure's invariant
 abbrev pub admits_all : (Fact → Bool) → List Fact → Bool
