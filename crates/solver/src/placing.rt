@@ -79,7 +79,7 @@ fn place_record(
 
 // Puts the fact on the chains of the pieces of the span (s, e) among the node (lo, hi), which has number `at`, and those below it.
 // Returns how many entries of `pieces` are in use then.
-fn place_below(
+pub(crate) fn place_below(
     nodes: &mut [u32],
     pieces: &mut [u32],
     used: usize,
