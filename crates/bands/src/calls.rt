@@ -140,6 +140,8 @@ impl<'a> Undoable for Bands<'a> {
     }
 
     fn order_is_free(&self) {}
+
+    fn holds_admitted_facts(&self) {}
 }
 
 // A band, and a band or a band plus 1,024.

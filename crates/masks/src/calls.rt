@@ -113,4 +113,6 @@ impl<'a> Undoable for Masks<'a> {
     }
 
     fn order_is_free(&self) {}
+
+    fn holds_admitted_facts(&self) {}
 }

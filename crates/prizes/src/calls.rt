@@ -117,6 +117,8 @@ impl<'a, 'b> Undoable for Prizes<'a, 'b> {
     }
 
     fn order_is_free(&self) {}
+
+    fn holds_admitted_facts(&self) {}
 }
 
 // An amount from 1 to 1,000, and 1 to 1,000 copies.

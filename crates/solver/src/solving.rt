@@ -177,6 +177,7 @@ fn answer_in<U: Undoable>(
     let t = book.question_count();
     place_all(book, spans, nodes, pieces);
     structure.order_is_free();
+    structure.holds_admitted_facts();
     walk(structure, book, nodes, pieces, answers, 0, 0, t);
     // The tally is a 32-bit number, so that its growth is known modulo 2^32.
     let _ = structure.tally();

@@ -6,7 +6,6 @@ ghost use Rattle.solver.specs.Tree.{Node, parent_inside, pieces_below, pieces_of
 // How many pieces the span (s, e) has in the tree over `t` questions. It takes about one step for each level of the tree.
 pub fn piece_count(t: usize, s: usize, e: usize) -> usize
     ensures result { result ≡ length (pieces_of t (s, e)) }
-    ensures most { result ≤ t }
     ensures partition { PiecesPartition }
     ensures few { PiecesFew }
     ensures worked { WorkedPieces }

@@ -50,8 +50,11 @@ pub trait Undoable {
     fn admits_question(&self, question: Question) -> bool
         ensures { result ≡ (kind self.now).asks question };
 
-    // Does nothing: its contract is the law that the order of the facts does not matter, and that every fact held is admitted.
+    // Does nothing: its contract is the law that the order of the facts does not matter.
     fn order_is_free(&self)
-        ensures law { OrderBlind (kind self.now) }
-        ensures admitted { Admitted (kind self.now) (stack self.now) };
+        ensures { OrderBlind (kind self.now) };
+
+    // Does nothing: its contract is that every fact held is admitted.
+    fn holds_admitted_facts(&self)
+        ensures { Admitted (kind self.now) (stack self.now) };
 }

@@ -49,7 +49,7 @@ returns g c =
       told = λ q h.
           c.walk.ensures.told q (omega arith) (omega (arith, t))
           ∙ (λ i. (k g d).rule (stack_to (node_facts (rs g d) (ns g d) (ps g d)) 0 0 (t i) q (st g d)) (numbered_question (rs g d) (c.requires.numbered q h i)))
-          ∙ stack_answer (k g d) (st g d) (rs g d) (ns g d) (ps g d) c.place_all.ensures.laid c.requires.accepted.fit c.order_is_free.ensures.law c.order_is_free.ensures.admitted q h;
+          ∙ stack_answer (k g d) (st g d) (rs g d) (ns g d) (ps g d) c.place_all.ensures.laid c.requires.accepted.fit c.order_is_free.ensures c.holds_admitted_facts.ensures q h;
       others = λ q h. c.walk.ensures.others q (inr (omega (arith, t)));
       stack = c.walk.ensures.stack;
       tally = omega (arith, c.walk.ensures.tally, c.tally.ensures, c.tally.type_inv, ap (λ n. weight (node_facts (rs g d) (ns g d) (ps g d)) 0 0 n) t, pushed (k g d) (st g d) (rs g d) (ns g d) (ps g d) c.place_all.ensures.laid c.requires.some);

@@ -11,7 +11,6 @@ worked = (refl, refl)
 pub returns-then-t-eq0 : goal.returns-then-t-eq0
 returns-then-t-eq0 c = record {
   result = sym (ap (λ t. length (pieces_of t (c.args.s, c.args.e))) c.if-t-eq0.true);
-  most = omega arith;
   partition = pieces_partition;
   few = pieces_few;
   worked = worked;
@@ -24,7 +23,6 @@ returns c =
     let x : ℕ × ℕ = (c.args.s, c.args.e) in
     record {
       result = c.count_below.ensures.count t None refl (omega arith) ∙ sym (ap (λ l. length (map (λ (v : Placed). v.node) (filter (is_piece x) l))) (cond-true (ltb 0 t) (nodes_from t None 0 t) [] (lt-ltb 0 t some)));
-      most = omega (arith, c.count_below.ensures.most);
       partition = pieces_partition;
       few = pieces_few;
       worked = worked;

@@ -1,11 +1,6 @@
--- The law of order, and that every fact on the stack is admitted.
-use Rattle.undoable.proofs.Admitting.{admitted_all}
-use Rattle.bands.specs.Meaning.{capacity_of, kind_of, stack_of}
+use Rattle.bands.specs.Meaning.{capacity_of}
 use Rattle.bands.proofs.Ordering.{order_blind}
 use Rattle.bands.proofs.calls.BandsUndoable.order_is_free.Goals as goal
 
 pub returns : goal.returns
-returns c = record {
-  law = order_blind (capacity_of c.args.self.now);
-  admitted = admitted_all (kind_of c.args.self.now) (stack_of c.args.self.now) c.args.self.now.admitted;
-}
+returns c = order_blind (capacity_of c.args.self.now)
