@@ -1,105 +1,103 @@
--- What a structure holds: its table has the rows of its facts, and its steps are theirs.
-use Rattle.std.proofs.Common.{◌≡◌, ◌+◌, ◌<◌, Bool, true, false, ltb, List, [], ◌∷◌, length, sym, refl, ap, ◌∙◌, subst, ⊎_elim, arith}
-use mathlib.Core.Logic.{∥∥₁_elim}
-use base.Stored.{Coded-set, coded_list}
-use Rattle.std.proofs.lemmas.Bool.{cases_Bool, cond-true, cond-false, and_parts}
+-- What a structure holds: its table has the rows of its facts, and its steps are theirs. After a push, and after a pop.
+use Rattle.std.proofs.Common.{◌≡◌, ℕ, ◌+◌, ◌<◌, true, List, [], ◌∷◌, get_or, drop, replicate, Some, Ok, sym, refl, ap, ◌∙◌, subst, arith}
+use Rattle.std.proofs.lemmas.Bool.{cond-true, and_parts, and_from, lt-ltb}
 use Rattle.undoable.specs.declared.facts.Fact.{Fact}
-use Rattle.undoable.specs.Stacks.{held}
-use Rattle.bands.specs.contracts.steps.BandStep as steps
-use Rattle.bands.specs.contracts.steps.Row as rows
+use Rattle.undoable.specs.Stacks.{held, put_result, put_after, take_result, take_after}
+use Rattle.bands.specs.declared.relations.Depth.{Depth}
 use Rattle.bands.specs.declared.steps.BandStep.{BandStep}
 use Rattle.bands.specs.declared.steps.Row.{Row}
 use Rattle.bands.specs.declared.structure.Bands.{Bands}
-use Rattle.bands.specs.Meaning.{stack_of}
-use Rattle.bands.specs.Rows.{row_at, Sound, step_from, step_of, undone, rows_of, steps_of, fact_of, facts_of, all_admitted}
-use Rattle.bands.specs.Rule.{far, mirrors, admits_band, ◌⊕◌}
-use Rattle.bands.proofs.Good.{root_of, odd_of, Good, good_sound}
+use Rattle.bands.specs.Rows.{fresh, row_at, place_of, Sound, step_of, after, undone, rows_of, steps_of, fact_of, facts_of, all_admitted, related, depth_of}
+use Rattle.bands.specs.Rule.{far, admits_band, relation}
+use Rattle.bands.proofs.Good.{Good, good_sound}
 use Rattle.bands.proofs.Tables.{fact_bands, good_rows, taken_back}
+use Rattle.bands.proofs.Telling.{related_rule, group_rule}
 
-pub rows_now : (b : Bands) → b.table.rows ≡ rows_of (stack_of b)
-rows_now b = ∥∥₁_elim b.present (Coded-set (coded_list (rows.the_row).coded) _ _) (λ e. e)
+-- a list with room for one more, and one that is not empty
+pub put_on : {X : Type 0} (n : ℕ) (xs : List X) (x : X) → put_result n xs ≡ Ok tt → put_after n xs x ≡ x ∷ xs
+put_on n xs x e = grind arith
 
-pub steps_now : (b : Bands) → held b.stack ≡ steps_of (stack_of b)
-steps_now b = ∥∥₁_elim b.steps (Coded-set (coded_list (steps.the_row).coded) _ _) (λ e. e)
+taken_off : {X : Type 0} (xs : List X) (x : X) → take_result xs ≡ Ok x → xs ≡ x ∷ take_after xs
+taken_off xs x e = grind arith
 
-pub good_now : (b : Bands) → Good (stack_of b) b.table.rows
-good_now b = subst (Good (stack_of b)) (sym (rows_now b)) (good_rows (stack_of b) b.admitted)
+pub record Holds (steps : List BandStep) (rs : List Row) : Type 0 where
+  pub admitted : all_admitted (facts_of steps) ≡ true
+  pub present : rs ≡ rows_of (facts_of steps)
+  pub saved : steps ≡ steps_of (facts_of steps)
 
-pub sound_now : (b : Bands) → Sound b.table.rows
-sound_now b = good_sound (good_now b)
+pub holding : (b : Bands) → Holds (held b.history.stack) b.table.rows
+holding b = record { admitted = b.admitted; present = b.present; saved = b.steps }
 
--- a step by which of the roots goes below
-by_size : (P : BandStep → Type 0) (rs : List Row) (f : Fact) → ((t : Bool) → P (step_from rs f t (root_of rs f.first) (root_of rs (far f)))) → ((t : Bool) → P (step_from rs f t (root_of rs (far f)) (root_of rs f.first))) → P (step_of rs f)
-by_size P rs f u v =
-    let t : Bool = odd_of rs f.first ⊕ odd_of rs (far f) ⊕ mirrors f in
-    ⊎_elim
-    (λ (e : ltb (row_at rs (root_of rs f.first)).size (row_at rs (root_of rs (far f))).size ≡ true). subst P (sym (cond-true _ _ _ e)) (u t))
-    (λ (e : ltb (row_at rs (root_of rs f.first)).size (row_at rs (root_of rs (far f))).size ≡ false). subst P (sym (cond-false _ _ _ e)) (v t))
-    (cases_Bool (ltb (row_at rs (root_of rs f.first)).size (row_at rs (root_of rs (far f))).size))
+pub nothing_held : {steps : List BandStep} {rs : List Row} → steps ≡ [] → rs ≡ replicate 1024 fresh → Holds steps rs
+unfolding rows_of steps_of
+nothing_held {steps} {rs} e f = subst (λ l. Holds l rs) (sym e) (subst (Holds []) (sym f) (record { admitted = refl; present = refl; saved = refl }))
 
 -- the step of an admitted fact stays in the table
-abbrev Inside : BandStep → Type 0
-Inside s = (s.low < 1024) × (s.high < 1024) × (s.above.size + s.below.size < 65536)
+pub record Inside (s : BandStep) : Type 0 where
+  pub low : s.low < 1024
+  pub high : s.high < 1024
+  pub fits : s.above.size + s.below.size < 65536
 
-pub step_inside : (fs : List Fact) (rs : List Row) → Good fs rs → (f : Fact) → admits_band f ≡ true → Inside (step_of rs f)
-step_inside fs rs g f e =
-    let l = fact_bands f e in
-    let a = g.within f.first l.0 in
-    let b = g.within (far f) l.1 in
-    let s = good_sound g in
-    by_size Inside rs f
-    (λ t. (a, b, omega (arith, s.most (root_of rs f.first), s.most (root_of rs (far f)))))
-    (λ t. (b, a, omega (arith, s.most (root_of rs f.first), s.most (root_of rs (far f)))))
+step_fact : (rs : List Row) (f : Fact) → fact_of (step_of rs f) ≡ f
+step_fact rs f = grind arith
 
-pub step_fact : (rs : List Row) (f : Fact) → fact_of (step_of rs f) ≡ f
-step_fact rs f = by_size (λ (s : BandStep). fact_of s ≡ f) rs f (λ t. refl) (λ t. refl)
+module _ {steps : List BandStep} {rs : List Row} (h : Holds steps rs) where
+  good : Good (facts_of steps) rs (place_of rs)
+  good = subst (λ (l : List Row). Good (facts_of steps) l (place_of l)) (sym h.present) (good_rows (facts_of steps) h.admitted)
 
-pub steps_more : (f : Fact) (fs : List Fact) → steps_of (f ∷ fs) ≡ step_of (rows_of fs) f ∷ steps_of fs
-unfolding steps_of
-steps_more f fs = refl
+  pub sound : Sound rs
+  sound = good_sound good
 
-pub steps_none : [] ≡ steps_of []
-unfolding steps_of
-steps_none = refl
+  pub stays_inside : (f : Fact) {s : BandStep} → admits_band f ≡ true → s ≡ step_of rs f → Inside s
+  stays_inside f {s} e is =
+      let l = fact_bands f e in
+      let a = good.within f.first l.0 in
+      let b = good.within (far f) l.1 in
+      let p = sound.most (place_of rs f.first).root in
+      let q = sound.most (place_of rs (far f)).root in
+      subst Inside (sym is) (record { low = grind arith; high = grind arith; fits = grind arith })
 
--- a stack of steps that is not empty: the newest is the step of its fact on the rows of the others
-pub record Newest (ss : List BandStep) (rs : List Row) : Type 0 where
-  pub top : BandStep
-  pub rest : List BandStep
-  pub is : ss ≡ top ∷ rest
-  pub low : top.low < 1024
-  pub high : top.high < 1024
-  pub admitted : all_admitted (facts_of rest) ≡ true
-  pub back : undone top rs ≡ rows_of (facts_of rest)
-  pub steps : rest ≡ steps_of (facts_of rest)
+  pub pushed : (f : Fact) {s : BandStep} {more : List BandStep} {ts : List Row} → admits_band f ≡ true → s ≡ step_of rs f → more ≡ s ∷ steps → ts ≡ after s rs → Holds more ts
+  unfolding rows_of steps_of
+  pushed f {s} {more} {ts} e is on d =
+      let fs : List Fact = facts_of steps in
+      let step : s ≡ step_of (rows_of (facts_of steps)) f = is ∙ ap (λ (l : List Row). step_of l f) h.present in
+      let facts : facts_of (s ∷ steps) ≡ f ∷ facts_of steps = ap (λ (g : Fact). g ∷ fs) (ap fact_of is ∙ step_fact rs f) in
+      subst (λ l. Holds l ts) (sym on) (record {
+        admitted = ap all_admitted facts ∙ and_from _ _ e h.admitted;
+        present = d ∙ (λ i. after (step i) (h.present i)) ∙ ap rows_of (sym facts);
+        saved = (λ i. step i ∷ h.saved i) ∙ ap steps_of (sym facts);
+      })
 
-tails : List BandStep → List BandStep
-tails [] = []
-tails (s ∷ ss) = ss
+  -- what the rows say
+  pub related_now : (a b : ℕ) → related rs a b ≡ relation (facts_of steps) a b
+  related_now a b = ap (λ (l : List Row). related l a b) h.present ∙ related_rule (facts_of steps) h.admitted a b
 
-heads : BandStep → List BandStep → BandStep
-heads d [] = d
-heads d (s ∷ ss) = s
+  pub depth_now : (a : ℕ) → a < 1024 → (d : Depth) → d.links ≡ (place_of rs a).links → d.bands ≡ (row_at rs (place_of rs a).root).size → Some d ≡ depth_of (facts_of steps) a
+  depth_now a l d e f =
+      let links = e ∙ ap (λ (l : List Row). (place_of l a).links) h.present in
+      let bands = f ∙ ap (λ (l : List Row). (row_at l (place_of l a).root).size) h.present ∙ group_rule (facts_of steps) h.admitted a l in
+      (λ i. Some (record { links = links i; bands = bands i })) ∙ sym (cond-true _ _ _ (lt-ltb a 1024 l))
 
-newest : (ss : List BandStep) (rs : List Row) → 0 < length ss → all_admitted (facts_of ss) ≡ true → rs ≡ rows_of (facts_of ss) → ss ≡ steps_of (facts_of ss) → Newest ss rs
-unfolding tails heads
-newest [] rs l a p e = absurd (omega arith)
-newest (s ∷ ss) rs l a p e =
-    let fs : List Fact = facts_of ss in
-    let h : s ∷ ss ≡ step_of (rows_of fs) (fact_of s) ∷ steps_of fs = e ∙ steps_more (fact_of s) fs in
-    let top : s ≡ step_of (rows_of fs) (fact_of s) = ap (heads s) h in
-    let k = and_parts _ _ a in
-    let i = step_inside fs (rows_of fs) (good_rows fs k.1) (fact_of s) k.0 in
+-- the newest step
+pub record Newest (top : BandStep) (rest : List BandStep) (rs : List Row) : Type 0 where
+  pub inside : Inside top
+  pub holds : Holds rest (undone top rs)
+
+pub newest : {steps : List BandStep} {rs : List Row} {top : BandStep} → Holds steps rs → take_result steps ≡ Ok top → Newest top (take_after steps) rs
+unfolding rows_of steps_of
+newest {steps} {rs} {top} h e =
+    let rest = take_after steps in
+    let t : Holds (top ∷ take_after steps) rs = subst (λ l. Holds l rs) (taken_off steps top e) h in
+    let fs : List Fact = facts_of (take_after steps) in
+    let k = and_parts _ _ t.admitted in
+    let is : top ≡ step_of (rows_of (facts_of (take_after steps))) (fact_of top) = ap (λ (l : List BandStep). get_or l 0 top) t.saved in
+    let saved = ap (drop 1) t.saved in
+    let i = stays_inside {steps = rest} {rs = rows_of fs} (record { admitted = k.1; present = refl; saved = saved }) (fact_of top) k.0 is in
     record {
-      top = s;
-      rest = ss;
-      is = refl;
-      low = subst (λ (z : BandStep). z.low < 1024) (sym top) i.0;
-      high = subst (λ (z : BandStep). z.high < 1024) (sym top) i.1;
-      admitted = k.1;
-      back = (λ j. undone (top j) (p j)) ∙ taken_back fs (fact_of s);
-      steps = ap tails h;
+      inside = i;
+      holds = record { admitted = k.1; present = (λ j. undone (is j) (t.present j)) ∙ taken_back fs (fact_of top); saved = saved };
     }
 
-pub newest_now : (b : Bands) → 0 < length (held b.stack) → Newest (held b.stack) b.table.rows
-newest_now b l = newest (held b.stack) b.table.rows l b.admitted (rows_now b) (steps_now b)
+pub popped : {steps rest : List BandStep} {rs ts : List Row} {top : BandStep} → Holds steps rs → take_result steps ≡ Ok top → rest ≡ take_after steps → ts ≡ undone top rs → Holds rest ts
+popped {rs = rs} {top = top} h e is d = subst (Holds _) (sym d) (subst (λ l. Holds l (undone top rs)) (sym is) (newest h e).holds)

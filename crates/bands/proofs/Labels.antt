@@ -1,49 +1,22 @@
 -- Two sides have one label exactly if a walk joins them, so the rule tells which walks there are.
-use Rattle.std.proofs.Common.{◌≡◌, ℕ, Bool, true, false, cond, not, List, [], ◌∷◌, sym, refl, ap, ◌∙◌, subst, ⊎_elim}
-use mathlib.Core.Bool.{beq}
-use Rattle.std.proofs.lemmas.Bool.{cases_Bool, cond-true, cond-false, eqb-true, eq-eqb, and_parts, and_from}
+use Rattle.std.proofs.Common.{◌≡◌, ℕ, Bool, true, false, cond, not, ◌⊎◌, List, [], ◌∷◌, sym, refl, ap, ◌∙◌, subst, inl, inr, arith}
 use Rattle.undoable.specs.declared.facts.Fact.{Fact}
 use Rattle.bands.specs.declared.relations.Relation.{Relation}
-use Rattle.bands.specs.declared.relations.Relation.TheVariants.{Apart, Equal, Mirrored, Both}
 use Rattle.bands.specs.Rule.{far, mirrors, ◌⊕◌, Among, here, later, Walk, stay, along, against, Side, side_of, same_side, merged, label, relation_by, has_even, has_odd, Tells, ByWalks}
-use Rattle.bands.proofs.Walking.{sum_assoc, sum_comm, sum_none, none_sum, sum_self, walk_then, walk_back, walk_step, walk_on}
-
-beq_is : (p q : Bool) → beq p q ≡ true → p ≡ q
-beq_is true true e = refl
-beq_is true false e = sym e
-beq_is false true e = e
-beq_is false false e = refl
-
-beq_self : (p : Bool) → beq p p ≡ true
-beq_self true = refl
-beq_self false = refl
+use Rattle.bands.proofs.Walking.{sum_assoc, sum_comm, sum_none, none_sum, sum_self, sum_twice, walk_then, walk_back, walk_step, walk_on}
 
 same_is : (s t : Side) → same_side s t ≡ true → s ≡ t
-same_is s t e =
-    let p = and_parts _ _ e in
-    let a = eqb-true s.band t.band p.0 in
-    let b = beq_is s.other t.other p.1 in
-    λ i. record { band = a i; other = b i }
-
-same_self : (s : Side) → same_side s s ≡ true
-same_self s = and_from _ _ (eq-eqb s.band s.band refl) (beq_self s.other)
+same_is s t e = grind arith
 
 is_same : (s t : Side) → s ≡ t → same_side s t ≡ true
-is_same s t e = subst (λ (z : Side). same_side s z ≡ true) e (same_self s)
+is_same s t e = grind arith
 
 -- a walk from side to side
 abbrev Joined : List Fact → Side → Side → Type 0
 Joined fs s t = Walk fs s.band t.band (s.other ⊕ t.other)
 
-pub between : (p q r : Bool) → (p ⊕ q) ⊕ (q ⊕ r) ≡ p ⊕ r
-between true true true = refl
-between true true false = refl
-between true false true = refl
-between true false false = refl
-between false true true = refl
-between false true false = refl
-between false false true = refl
-between false false false = refl
+between : (p q r : Bool) → (p ⊕ q) ⊕ (q ⊕ r) ≡ p ⊕ r
+between p q r = grind arith
 
 module _ {fs : List Fact} where
   joined_then : (s t u : Side) → Joined fs s t → Joined fs t u → Joined fs s u
@@ -54,42 +27,28 @@ module _ {fs : List Fact} where
 
 -- merged labels
 module _ (l : Side → Side) (s t : Side) where
-  merged_yes : (x : Side) → same_side (l x) (l t) ≡ true → merged l s t x ≡ l s
-  merged_yes x e = cond-true _ _ _ e
-
-  merged_no : (x : Side) → same_side (l x) (l t) ≡ false → merged l s t x ≡ l x
-  merged_no x e = cond-false _ _ _ e
+  -- a label is turned, or it stays
+  turned : (x : Side) → ((l x ≡ l t) × (merged l s t x ≡ l s)) ⊎ (merged l s t x ≡ l x)
+  turned x = grind (arith, same_is)
 
   merged_keeps : (x y : Side) → l x ≡ l y → merged l s t x ≡ merged l s t y
   merged_keeps x y e = ap (λ (z : Side). cond (same_side z (l t)) (l s) z) e
 
   merged_joins : merged l s t s ≡ merged l s t t
-  merged_joins =
-      ⊎_elim
-      (λ (e : same_side (l s) (l t) ≡ true). merged_yes s e)
-      (λ (e : same_side (l s) (l t) ≡ false). merged_no s e)
-      (cases_Bool (same_side (l s) (l t)))
-      ∙ sym (merged_yes t (same_self (l t)))
+  merged_joins = grind (arith, same_is, is_same (l t) (l t) refl)
 
   module _ {fs : List Fact} (link : Joined fs s t) (sound : (x y : Side) → l x ≡ l y → Joined fs x y) where
     from_t : (x y : Side) → l x ≡ l t → l s ≡ l y → Joined fs x y
     from_t x y e h = joined_then x t y (sound x t e) (joined_then t s y (joined_back s t link) (sound s y h))
 
     merged_sound : (x y : Side) → merged l s t x ≡ merged l s t y → Joined fs x y
-    merged_sound x y h =
-        ⊎_elim
-        (λ (e : same_side (l x) (l t) ≡ true).
-        let a : l x ≡ l t = same_is (l x) (l t) e in
-        ⊎_elim
-        (λ (d : same_side (l y) (l t) ≡ true). sound x y (a ∙ sym (same_is (l y) (l t) d)))
-        (λ (d : same_side (l y) (l t) ≡ false). from_t x y a (sym (merged_yes x e) ∙ h ∙ merged_no y d))
-        (cases_Bool (same_side (l y) (l t))))
-        (λ (e : same_side (l x) (l t) ≡ false).
-        ⊎_elim
-        (λ (d : same_side (l y) (l t) ≡ true). joined_back y x (from_t y x (same_is (l y) (l t) d) (sym (merged_yes y d) ∙ sym h ∙ merged_no x e)))
-        (λ (d : same_side (l y) (l t) ≡ false). sound x y (sym (merged_no x e) ∙ h ∙ merged_no y d))
-        (cases_Bool (same_side (l y) (l t))))
-        (cases_Bool (same_side (l x) (l t)))
+    merged_sound x y h = by_turns (turned x) (turned y)
+      where
+        by_turns : ((l x ≡ l t) × (merged l s t x ≡ l s)) ⊎ (merged l s t x ≡ l x) → ((l y ≡ l t) × (merged l s t y ≡ l s)) ⊎ (merged l s t y ≡ l y) → Joined fs x y
+        by_turns (inl a) (inl b) = sound x y (a.0 ∙ sym b.0)
+        by_turns (inl a) (inr b) = from_t x y a.0 (sym a.1 ∙ h ∙ b)
+        by_turns (inr a) (inl b) = joined_back y x (from_t y x b.0 (sym b.1 ∙ sym h ∙ a))
+        by_turns (inr a) (inr b) = sound x y (sym a ∙ h ∙ b)
 
 -- the sides that a fact joins
 abbrev one : Fact → Bool → Side
@@ -98,13 +57,11 @@ one f p = side_of f.first p
 abbrev two : Fact → Bool → Side
 two f p = side_of (far f) p
 
-turned_over : (p : Bool) → true ⊕ p ≡ not p
-turned_over true = refl
-turned_over false = refl
+turned_over : (p : Bool) → not p ≡ true ⊕ p
+turned_over p = grind arith
 
 over_not : (p : Bool) → true ⊕ not p ≡ p
-over_not true = refl
-over_not false = refl
+over_not p = grind arith
 
 -- equal labels: a walk
 label_sound : (fs : List Fact) (x y : Side) → label fs x ≡ label fs y → Joined fs x y
@@ -126,7 +83,7 @@ label_joins {f} (here {fs}) false =
 label_joins {f} (here {fs}) true =
     let l : Side → Side = merged (label fs) (one f false) (two f (mirrors f)) in
     merged_joins l (one f true) (two f (not (mirrors f)))
-    ∙ ap (λ (q : Bool). label (f ∷ fs) (two f q)) (sym (turned_over (mirrors f)))
+    ∙ ap (λ (q : Bool). label (f ∷ fs) (two f q)) (turned_over (mirrors f))
 label_joins {f} (later {g} {fs} m) p =
     let l : Side → Side = merged (label fs) (one g false) (two g (mirrors g)) in
     merged_keeps l (one g true) (two g (not (mirrors g))) (one f p) (two f (p ⊕ mirrors f))
@@ -138,23 +95,16 @@ walk_labels {fs} (stay {x}) q = ap (λ (r : Bool). label fs (side_of x r)) (sym 
 walk_labels {fs} (along {f} {y} {p} m w) q =
     label_joins m q ∙ walk_labels w (q ⊕ mirrors f) ∙ ap (λ (r : Bool). label fs (side_of y r)) (sum_assoc q (mirrors f) p)
 walk_labels {fs} (against {f} {y} {p} m w) q =
-    let twice : (q ⊕ mirrors f) ⊕ mirrors f ≡ q = sum_assoc q (mirrors f) (mirrors f) ∙ ap (λ (r : Bool). q ⊕ r) (sum_self (mirrors f)) ∙ sum_none q in
-    ap (λ (r : Bool). label fs (two f r)) (sym twice)
+    ap (λ (r : Bool). label fs (two f r)) (sym (sum_twice q (mirrors f)))
     ∙ sym (label_joins m (q ⊕ mirrors f))
     ∙ walk_labels w (q ⊕ mirrors f)
     ∙ ap (λ (r : Bool). label fs (side_of y r)) (sum_assoc q (mirrors f) p)
 
 even_by : (e o : Bool) → has_even (relation_by e o) ≡ e
-even_by true true = refl
-even_by true false = refl
-even_by false true = refl
-even_by false false = refl
+even_by e o = grind arith
 
 odd_by : (e o : Bool) → has_odd (relation_by e o) ≡ o
-odd_by true true = refl
-odd_by true false = refl
-odd_by false true = refl
-odd_by false false = refl
+odd_by e o = grind arith
 
 pub by_walks : ByWalks
 by_walks fs a b =
@@ -169,19 +119,9 @@ by_walks fs a b =
     }
 
 -- only one relation tells the walks between two bands
-by_parts : (r : Relation) → r ≡ relation_by (has_even r) (has_odd r)
-by_parts Apart = refl
-by_parts Equal = refl
-by_parts Mirrored = refl
-by_parts Both = refl
-
-same_test : (x y : Bool) → (x ≡ true → y ≡ true) → (y ≡ true → x ≡ true) → x ≡ y
-same_test true y f g = sym (f refl)
-same_test false true f g = g refl
-same_test false false f g = refl
-
 pub tells_same : {fs : List Fact} {a b : ℕ} (r s : Relation) → Tells fs a b r → Tells fs a b s → r ≡ s
 tells_same r s t u =
-    let e : has_even r ≡ has_even s = same_test _ _ (λ h. u.even_only (t.even_walk h)) (λ h. t.even_only (u.even_walk h)) in
-    let o : has_odd r ≡ has_odd s = same_test _ _ (λ h. u.odd_only (t.odd_walk h)) (λ h. t.odd_only (u.odd_walk h)) in
-    by_parts r ∙ (λ i. relation_by (e i) (o i)) ∙ sym (by_parts s)
+    one r s (λ h. u.even_only (t.even_walk h)) (λ h. t.even_only (u.even_walk h)) (λ h. u.odd_only (t.odd_walk h)) (λ h. t.odd_only (u.odd_walk h))
+  where
+    one : (r s : Relation) → (has_even r ≡ true → has_even s ≡ true) → (has_even s ≡ true → has_even r ≡ true) → (has_odd r ≡ true → has_odd s ≡ true) → (has_odd s ≡ true → has_odd r ≡ true) → r ≡ s
+    one r s a b c d = grind arith

@@ -1,38 +1,31 @@
 -- Walks: one after another, back again, and along the facts of another list.
-use Rattle.std.proofs.Common.{◌≡◌, ℕ, Bool, true, false, List, sym, refl, ap, ◌∙◌, subst}
+use Rattle.std.proofs.Common.{◌≡◌, ℕ, Bool, false, List, ◌∷◌, sym, subst, arith}
 use Rattle.undoable.specs.declared.facts.Fact.{Fact}
-use Rattle.bands.specs.Rule.{far, mirrors, ◌⊕◌, Among, Walk, stay, along, against}
+use Rattle.bands.specs.Rule.{far, mirrors, ◌⊕◌, Among, later, Walk, stay, along, against}
 
 pub sum_assoc : (p q r : Bool) → (p ⊕ q) ⊕ r ≡ p ⊕ (q ⊕ r)
-sum_assoc true true true = refl
-sum_assoc true true false = refl
-sum_assoc true false true = refl
-sum_assoc true false false = refl
-sum_assoc false true true = refl
-sum_assoc false true false = refl
-sum_assoc false false true = refl
-sum_assoc false false false = refl
+sum_assoc p q r = grind arith
 
 pub sum_comm : (p q : Bool) → p ⊕ q ≡ q ⊕ p
-sum_comm true true = refl
-sum_comm true false = refl
-sum_comm false true = refl
-sum_comm false false = refl
+sum_comm p q = grind arith
 
 pub sum_none : (p : Bool) → p ⊕ false ≡ p
-sum_none true = refl
-sum_none false = refl
+sum_none p = grind arith
 
 pub none_sum : (p : Bool) → false ⊕ p ≡ p
-none_sum true = refl
-none_sum false = refl
+none_sum p = grind arith
 
 pub sum_self : (p : Bool) → p ⊕ p ≡ false
-sum_self true = refl
-sum_self false = refl
+sum_self p = grind arith
+
+pub sum_twice : (p q : Bool) → (p ⊕ q) ⊕ q ≡ p
+sum_twice p q = grind arith
+
+pub round_trip : (a b m : Bool) → (a ⊕ m) ⊕ b ≡ a ⊕ b ⊕ m
+round_trip a b m = grind arith
 
 back_parity : (p q : Bool) → p ⊕ (q ⊕ false) ≡ q ⊕ p
-back_parity p q = ap (λ (r : Bool). p ⊕ r) (sum_none q) ∙ sum_comm p q
+back_parity p q = grind arith
 
 module _ {fs : List Fact} where
   pub walk_then : {x y z : ℕ} {p q : Bool} → Walk fs x y p → Walk fs y z q → Walk fs x z (p ⊕ q)
@@ -53,3 +46,7 @@ pub walk_on : {fs gs : List Fact} → ((f : Fact) → Among f fs → Among f gs)
 walk_on i stay = stay
 walk_on i (along {f} m v) = along (i f m) (walk_on i v)
 walk_on i (against {f} m v) = against (i f m) (walk_on i v)
+
+-- with one fact more
+pub walk_more : {f : Fact} {fs : List Fact} {x y : ℕ} {p : Bool} → Walk fs x y p → Walk (f ∷ fs) x y p
+walk_more w = walk_on (λ h m. later m) w

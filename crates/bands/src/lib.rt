@@ -1,6 +1,7 @@
 // Bands: which bands are equal, mirrored or both, by facts that can be taken back.
 #![tactic(auto)]
 
+mod band;
 pub mod calls;
 pub mod relations;
 pub mod steps;

@@ -79,12 +79,12 @@ words-record_in h s i j =
     other k l u d e = omega arith
 
 neither : {A E : Type 0} (b : Bool) (x y : E) (q : A) → cond b (Err x) (Err y) ≡ Ok q → ⊥
-neither true x y q h = let z : ◌≡◌ {A = ℕ} 0 1 = cc in omega arith
-neither false x y q h = let z : ◌≡◌ {A = ℕ} 0 1 = cc in omega arith
+neither true x y q h = cc
+neither false x y q h = cc
 
 and_then-ok : (x : Result (Unit {0}) Refusal) (p : ℕ) (next : Result (List Record) LoadError) (qs : List Record) → and_then x p next ≡ Ok qs → (x ≡ Ok tt) × (next ≡ Ok qs)
 and_then-ok (Ok u) p next qs h = (refl, h)
-and_then-ok (Err e) p next qs h = let z : ◌≡◌ {A = ℕ} 0 1 = cc in absurd (omega arith)
+and_then-ok (Err e) p next qs h = absurd cc
 
 only : (p : ℕ) (rs : List Record) (ws : List ℕ) (qs : List Record) → sound rs ≡ true → loads_from p rs ws ≡ Ok qs → (sound qs ≡ true) × (writes qs ≡ writes rs ++ ws)
 only p rs [] qs s h = let e : rs ≡ qs = cc in (ap sound (sym e) ∙ s, ap writes (sym e) ∙ sym (append-nil (writes rs)))

@@ -1,12 +1,12 @@
 -- The records before a question, and the greatest number of facts alive there.
-use Rattle.std.proofs.Common.{◌≡◌, ℕ, suc, ◌+◌, max, cond, List, [], ◌∷◌, ◌++◌, length, sym, refl, ap, ◌∙◌, add-zero, add-one, arith}
+use Rattle.std.proofs.Common.{◌≡◌, ℕ, suc, ◌+◌, cond, List, [], ◌∷◌, ◌++◌, length, refl, ap, ◌∙◌, arith}
 use Rattle.std.proofs.lemmas.List.Sums.{sum_by-cons}
 use Rattle.undoable.specs.declared.facts.Question.{Question}
 use Rattle.book.specs.declared.records.Record.{Record}
 use Rattle.book.specs.declared.records.Record.TheVariants as is
 use Rattle.book.specs.Alive.{alive}
 use Rattle.book.specs.Records.{is_question, question_count}
-use Rattle.book.specs.Spans.{before, greatest}
+use Rattle.book.specs.Spans.{before}
 
 pub questions-cons : (r : Record) (rs : List Record) → question_count (r ∷ rs) ≡ cond (is_question r) 1 0 + question_count rs
 questions-cons r rs = sum_by-cons (λ x. cond (is_question x) 1 0) r rs
@@ -24,13 +24,6 @@ before_at (is.Question x ∷ rs) q rest =
     let e : question_count (is.Question x ∷ rs) ≡ suc (question_count rs) = questions-cons (is.Question x) rs ∙ omega arith in
     ap (λ n. before n (is.Question x ∷ (rs ++ is.Question q ∷ rest))) e ∙ ap (λ l. is.Question x ∷ l) (before_at rs q rest)
 
--- one record more, the facts alive before it being the depth at a question
+-- how many facts are alive at a question
 abbrev pub depth : List Record → ℕ → ℕ
 depth rs q = length (alive (before q rs))
-
-pub deeper_more : (all front : List Record) (r : Record) (rest : List Record) → all ≡ front ++ r ∷ rest → cond (is_question r) (max (greatest (depth all) (question_count front)) (length (alive front))) (greatest (depth all) (question_count front)) ≡ greatest (depth all) (question_count front + cond (is_question r) 1 0)
-deeper_more all front (is.Fact f) rest e = ap (greatest (depth all)) (sym (add-zero (question_count front)))
-deeper_more all front (is.Withdrawal f) rest e = ap (greatest (depth all)) (sym (add-zero (question_count front)))
-deeper_more all front (is.Question q) rest e =
-    let here : before (question_count front) all ≡ front = ap (before (question_count front)) e ∙ before_at front q rest in
-    ap (λ l. max (greatest (depth all) (question_count front)) (length (alive l))) (sym here) ∙ ap (greatest (depth all)) (sym (add-one (question_count front)))

@@ -1,7 +1,6 @@
 -- Words and the records they stand for: reading undoes writing, and one more record is two more words.
-use Rattle.std.proofs.Common.{◌≡◌, ℕ, zero, suc, ◌+◌, ◌*◌, ◌^◌, ◌<◌, ◌≤◌, Bool, true, false, cond, ◌≢◌, List, [], ◌∷◌, ◌++◌, length, get_or, take, drop, set, count_by, sym, refl, ap, ◌∙◌, add-one, arith}
-use Rattle.std.proofs.lemmas.List.{length_push, length-set, take-set-le, take-set, get_or-set_other, get_or-set_same, take_more, append_assoc, take-append-drop}
-use Rattle.std.proofs.lemmas.List.Sums.{sum_by_push}
+use Rattle.std.proofs.Common.{◌≡◌, ℕ, zero, suc, ◌+◌, ◌*◌, ◌^◌, ◌<◌, ◌≤◌, Bool, true, false, cond, ◌≢◌, List, [], ◌∷◌, ◌++◌, length, get_or, take, drop, set, sym, refl, ap, ◌∙◌, add-one, arith}
+use Rattle.std.proofs.lemmas.List.{length_push, length-set, take-set-le, take-set, get_or-set_other, get_or-set_same, take_more, append_assoc}
 use Rattle.std.proofs.lemmas.Nat.{shr_high, mod_low}
 use Rattle.std.proofs.lemmas.Bool.{ltb-true, and_parts}
 use Rattle.book.specs.declared.records.Record.{Record}
@@ -44,44 +43,18 @@ length-reads ws (suc i) h =
     let le : 2 * i ≤ length ws = omega arith in
     ap (λ n. length (reads (take (2 * n) ws))) (sym (add-one i)) ∙ ap length (reads_more ws i lt) ∙ length_push _ _ ∙ ap (λ n. n + 1) (length-reads ws i le) ∙ add-one i
 
--- the records from number i on
-pub drop-reads : (ws : List ℕ) (i n : ℕ) → i < n → 2 * n ≤ length ws → drop i (reads (take (2 * n) ws)) ≡ record_in (get_or ws (2 * i) 0) (get_or ws (2 * i + 1) 0) ∷ drop (i + 1) (reads (take (2 * n) ws))
-drop-reads ws i zero h k = absurd (omega arith)
-drop-reads [] i (suc n) h k = absurd (omega arith)
-drop-reads (x ∷ []) i (suc n) h k = absurd (omega arith)
-drop-reads (x ∷ (y ∷ ws)) zero (suc n) h k =
-    let a : 2 * suc n ≡ suc (suc (2 * n)) = omega arith in
-    rw a refl
-drop-reads (x ∷ (y ∷ ws)) (suc i) (suc n) h k =
-    let a : 2 * suc n ≡ suc (suc (2 * n)) = omega arith in
-    let b : 2 * suc i + 1 ≡ suc (suc (2 * i + 1)) = omega arith in
-    let c : 2 * suc i ≡ suc (suc (2 * i)) = omega arith in
-    let d : suc i + 1 ≡ suc (i + 1) = omega arith in
-    let lt : i < n = omega arith in
-    let le : 2 * n ≤ length ws = omega arith in
-    rw (a, b, c, d) (drop-reads ws i n lt le)
+-- the first records of some words, and those from number n on
+pub reads-take : (n : ℕ) (ws : List ℕ) → reads (take (2 * n) ws) ≡ take n (reads ws)
+reads-take zero ws = refl
+reads-take (suc n) [] = let a : 2 * suc n ≡ suc (suc (2 * n)) = omega arith in rw a refl
+reads-take (suc n) (x ∷ []) = let a : 2 * suc n ≡ suc (suc (2 * n)) = omega arith in rw a refl
+reads-take (suc n) (x ∷ (y ∷ ws)) = let a : 2 * suc n ≡ suc (suc (2 * n)) = omega arith in rw a (ap (λ rs. record_in x y ∷ rs) (reads-take n ws))
 
-pub reads-take : (ws : List ℕ) (i n : ℕ) → i ≤ n → 2 * n ≤ length ws → reads (take (2 * i) ws) ≡ take i (reads (take (2 * n) ws))
-reads-take ws zero n h k = refl
-reads-take ws (suc i) zero h k = absurd (omega arith)
-reads-take [] (suc i) (suc n) h k = absurd (omega arith)
-reads-take (x ∷ []) (suc i) (suc n) h k = absurd (omega arith)
-reads-take (x ∷ (y ∷ ws)) (suc i) (suc n) h k =
-    let a : 2 * suc n ≡ suc (suc (2 * n)) = omega arith in
-    let c : 2 * suc i ≡ suc (suc (2 * i)) = omega arith in
-    let lt : i ≤ n = omega arith in
-    let le : 2 * n ≤ length ws = omega arith in
-    rw (a, c) (ap (λ rs. record_in x y ∷ rs) (reads-take ws i n lt le))
-
--- the records before number i, that record, and those behind it
-pub reads_split : (ws : List ℕ) (i n : ℕ) → i < n → 2 * n ≤ length ws → reads (take (2 * n) ws) ≡ reads (take (2 * i) ws) ++ record_in (get_or ws (2 * i) 0) (get_or ws (2 * i + 1) 0) ∷ drop (i + 1) (reads (take (2 * n) ws))
-reads_split ws i n h k =
-    let le : i ≤ n = omega arith in
-    sym (take-append-drop i (reads (take (2 * n) ws))) ∙ (λ j. sym (reads-take ws i n le k) j ++ drop-reads ws i n h k j)
-
--- a count over the first i + 1 records of some words
-pub count_more : (p : Record → Bool) (ws : List ℕ) (i : ℕ) → 2 * i + 1 < length ws → count_by p (reads (take (2 * i) ws)) + cond (p (record_in (get_or ws (2 * i) 0) (get_or ws (2 * i + 1) 0))) 1 0 ≡ count_by p (reads (take (2 * (i + 1)) ws))
-count_more p ws i h = sym (ap (count_by p) (reads_more ws i h) ∙ sum_by_push (λ r. cond (p r) 1 0) (reads (take (2 * i) ws)) (record_in (get_or ws (2 * i) 0) (get_or ws (2 * i + 1) 0)))
+pub reads-drop : (n : ℕ) (ws : List ℕ) → reads (drop (2 * n) ws) ≡ drop n (reads ws)
+reads-drop zero ws = refl
+reads-drop (suc n) [] = let a : 2 * suc n ≡ suc (suc (2 * n)) = omega arith in rw a refl
+reads-drop (suc n) (x ∷ []) = let a : 2 * suc n ≡ suc (suc (2 * n)) = omega arith in rw a refl
+reads-drop (suc n) (x ∷ (y ∷ ws)) = let a : 2 * suc n ≡ suc (suc (2 * n)) = omega arith in rw a (reads-drop n ws)
 
 pub cond_small : (b : Bool) → cond b 1 0 ≤ 1
 cond_small true = omega arith

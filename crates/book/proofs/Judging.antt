@@ -1,5 +1,5 @@
 -- What an accepted record was tested for, and what holds of every sound list.
-use Rattle.std.proofs.Common.{◌≡◌, ℕ, ◌+◌, ◌<◌, Bool, true, false, cond, ltb, List, [], ◌∷◌, ◌++◌, length, take, drop, is_ok, Ok, Err, Result, sym, refl, ap, ◌∙◌, subst, append_assoc, append-nil, zero-add, arith}
+use Rattle.std.proofs.Common.{◌≡◌, ℕ, ◌+◌, ◌-◌, ◌<◌, Bool, true, false, cond, ltb, List, [], ◌∷◌, ◌++◌, length, take, drop, is_ok, Ok, Err, Result, sym, refl, ap, ◌∙◌, subst, append_assoc, append-nil, zero-add, arith}
 use Rattle.std.proofs.lemmas.List.{length_push, take-append-drop}
 use Rattle.std.proofs.lemmas.List.Sums.{sum_by_push}
 use Rattle.std.proofs.lemmas.Bool.{ltb-true, and_parts, and_from}
@@ -7,7 +7,7 @@ use Rattle.undoable.specs.declared.facts.Fact.{Fact}
 use Rattle.book.specs.declared.records.Record.{Record}
 use Rattle.book.specs.declared.records.Record.TheVariants as is
 use Rattle.book.specs.declared.refusals.Refusal.TheVariants.{FieldTooLarge, BookFull, NothingAlive}
-use Rattle.book.specs.Records.{enters, withdraws, entered_of, withdrawn_of, is_fact, is_withdrawal}
+use Rattle.book.specs.Records.{enters, withdraws, entered_of, withdrawn_of}
 use Rattle.undoable.specs.Kinds.{same}
 use Rattle.book.specs.Alive.{alive_from, alive, equal_to}
 use Rattle.book.specs.Rules.{fits, judge, judge_kind, sound, sound_after}
@@ -17,7 +17,7 @@ use Rattle.book.proofs.Living.{alive_from-append, equal_to-without, length_witho
 -- a test that led to Ok was true
 pub passed : {A E : Type 0} (b : Bool) (x : Result A E) (e : E) (y : A) → cond b x (Err e) ≡ Ok y → (b ≡ true) × (x ≡ Ok y)
 passed true x e y h = (refl, h)
-passed false x e y h = let z : ◌≡◌ {A = ℕ} 0 1 = cc in absurd (omega arith)
+passed false x e y h = absurd cc
 
 pub judge_ok : (rs : List Record) (r : Record) → judge rs r ≡ Ok tt → (fits r ≡ true) × (length rs < 4096) × (judge_kind rs r ≡ Ok tt)
 judge_ok rs r h =
@@ -30,7 +30,7 @@ withdrawal_ok rs f h = ltb-true 0 (equal_to f (alive rs)) (passed _ (Ok tt) Noth
 
 pub ok_is : {E : Type 0} (x : Result (Unit {0}) E) → is_ok x ≡ true → x ≡ Ok tt
 ok_is (Ok u) h = refl
-ok_is (Err e) h = let z : ◌≡◌ {A = ℕ} 0 1 = cc in absurd (omega arith)
+ok_is (Err e) h = absurd cc
 
 pub sound_after-push : (rs qs : List Record) (r : Record) → sound_after rs qs ≡ true → judge (rs ++ qs) r ≡ Ok tt → sound_after rs (qs ++ r ∷ []) ≡ true
 sound_after-push rs [] r s j =
@@ -97,11 +97,16 @@ sound_next rs (q ∷ qs) r rest s =
 pub sound-take : (n : ℕ) (rs : List Record) → sound rs ≡ true → sound (take n rs) ≡ true
 sound-take n rs s = sound_front [] (take n rs) (drop n rs) (ap sound (take-append-drop n rs) ∙ s)
 
--- each withdrawal of a sound list ends one fact
-pub length-alive-push : (rs : List Record) (r : Record) → judge rs r ≡ Ok tt → length (alive (rs ++ r ∷ [])) + cond (is_withdrawal r) 1 0 ≡ length (alive rs) + cond (is_fact r) 1 0
-length-alive-push rs (is.Fact f) j = omega (arith, ap length (alive-push rs (is.Fact f)), length_push (alive rs) (record { number = length rs; fact = f }))
+-- how many facts are alive after one more record, if n are alive before it: each withdrawal of a sound list ends one
+abbrev pub living : Record → ℕ → ℕ
+living (is.Fact f) n = n + 1
+living (is.Withdrawal f) n = n - 1
+living (is.Question q) n = n
+
+pub length-alive-push : (rs : List Record) (r : Record) → judge rs r ≡ Ok tt → length (alive (rs ++ r ∷ [])) ≡ living r (length (alive rs))
+length-alive-push rs (is.Fact f) j = ap length (alive-push rs (is.Fact f)) ∙ length_push (alive rs) (record { number = length rs; fact = f })
 length-alive-push rs (is.Withdrawal f) j = omega (arith, ap length (alive-push rs (is.Withdrawal f)), length_without f (alive rs) (withdrawal_ok rs f j))
-length-alive-push rs (is.Question q) j = omega (arith, ap length (alive-push rs (is.Question q)))
+length-alive-push rs (is.Question q) j = ap length (alive-push rs (is.Question q))
 
 pub alive_by_counts : AliveByCounts
 alive_by_counts rs s n f = balanced f (take n rs) (sound-take n rs s)

@@ -1,12 +1,12 @@
 pub mod Coding
+pub mod Books
 pub mod Living
 pub mod Judging
 pub mod Untils
 pub mod Asked
-pub mod Stepping
+pub mod Searching
+pub mod Passes
 pub mod Accepting
 pub mod Refusing
 pub mod Surviving
 pub mod Quads
-pub mod Passing
-pub mod Searching

@@ -104,7 +104,7 @@ module _ (p : ℕ) (rs : List Record) (h : ℕ) where
           both (suc (suc m)) a b = ap is_ok (bad (take m ws))
 
 stopped : (p : ℕ) (rs : List Record) (ws : List ℕ) (e : LoadError) → loads_from p rs ws ≡ Err e → Stopped p rs ws e
-stopped p rs [] e k = let z : ◌≡◌ {A = ℕ} 0 1 = cc in absurd (omega arith)
+stopped p rs [] e k = absurd cc
 stopped p rs (h ∷ []) e k = ⊎_elim (λ i. at_end p rs h i e k) (λ i. at_head p rs h i [] e k) (cases_Bool (is_head h))
 stopped p rs (h ∷ (s ∷ ws)) e k =
     ⊎_elim

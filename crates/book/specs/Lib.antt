@@ -1,10 +1,12 @@
 pub mod Records
 pub mod Words
+pub mod WordKinds
 pub mod Alive
 pub mod Rules
 pub mod Loads
 pub mod Spans
 pub mod View
+pub mod Listed
 pub mod Reading
 pub mod Pending
 pub mod Theorems

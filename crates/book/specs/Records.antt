@@ -1,7 +1,8 @@
 -- Lists of records, the earliest entered first, and what is counted in them.
-use Rattle.std.specs.Prelude.{ℕ, Bool, true, false, List, count_by}
+use Rattle.std.specs.Prelude.{ℕ, Bool, true, false, List, count_by, Option, Some, None}
 use Rattle.undoable.specs.Kinds.{same}
 use Rattle.undoable.specs.declared.facts.Fact.{Fact}
+use Rattle.undoable.specs.declared.facts.Question.{Question}
 use Rattle.book.specs.declared.records.Record.{Record}
 use Rattle.book.specs.declared.records.Record.TheVariants as is
 
@@ -31,6 +32,17 @@ abbrev pub is_question : Record → Bool
 is_question (is.Fact g) = false
 is_question (is.Withdrawal g) = false
 is_question (is.Question q) = true
+
+-- the fact that a record enters, and the question that it asks
+abbrev pub fact_in : Record → Option Fact
+fact_in (is.Fact g) = Some g
+fact_in (is.Withdrawal g) = None
+fact_in (is.Question q) = None
+
+abbrev pub question_in : Record → Option Question
+question_in (is.Fact g) = None
+question_in (is.Withdrawal g) = None
+question_in (is.Question q) = Some q
 
 -- how often a fact equal to f is entered, and how often it is withdrawn
 abbrev pub entered_of : Fact → List Record → ℕ

@@ -1,16 +1,12 @@
 // Entering records: each call appends one record or refuses and changes nothing.
 ghost use Rattle.std.specs.Prelude.{◌≡◌, [], ◌∷◌, ◌++◌, Ok};
-ghost use Rattle.book.specs.Rules.{fits, judge, judge_kind, after_entry};
+ghost use Rattle.book.specs.Rules.{judge, judge_kind, after_entry};
 ghost use Rattle.book.specs.View.{records_of};
 
 use crate::records::Record;
 use crate::refusals::Refusal;
-use crate::scans::{front_counts, question_in};
 use crate::state::Book;
-use crate::words::{head_word, second_word};
 use undoable::{Fact, Question};
-
-const FIELD_LIMIT: u32 = 536_870_911;
 
 const RECORD_LIMIT: usize = 4096;
 
@@ -66,10 +62,10 @@ impl Book {
     fn judged(&self, item: Record) -> Result<(), Refusal>
         ensures { result ≡ judge (records_of self.now) item }
     {
-        if !fields_fit(item) {
+        if !item.fits() {
             return Err(Refusal::FieldTooLarge);
         }
-        if self.records >= RECORD_LIMIT {
+        if self.record_count() >= RECORD_LIMIT {
             return Err(Refusal::BookFull);
         }
         self.judged_kind(item)
@@ -80,22 +76,13 @@ impl Book {
         ensures { result ≡ judge_kind (records_of self.now) item }
     {
         match item {
-            Record::Fact(_) => Ok(()),
-            Record::Withdrawal(f) => {
-                let before = front_counts(&self.words, self.records, f);
-                if before.withdrawn < before.entered {
-                    Ok(())
-                } else {
-                    Err(Refusal::NothingAlive)
-                }
+            Record::Withdrawal(fact) if self.front(self.record_count(), fact).equal == 0 => {
+                Err(Refusal::NothingAlive)
             }
-            Record::Question(_) => {
-                if self.questions < QUESTION_LIMIT {
-                    Ok(())
-                } else {
-                    Err(Refusal::TooManyQuestions)
-                }
+            Record::Question(_) if self.question_count() >= QUESTION_LIMIT => {
+                Err(Refusal::TooManyQuestions)
             }
+            _ => Ok(()),
         }
     }
 
@@ -105,20 +92,10 @@ impl Book {
         ensures { records_of self.new ≡ records_of self.old ++ item ∷ [] }
     {
         let at = 2 * self.records;
-        self.words[at] = head_word(item);
-        self.words[at + 1] = second_word(item);
+        let (head, second) = item.words();
+        self.words[at] = head;
+        self.words[at + 1] = second;
         self.records += 1;
-        self.questions += question_in(item);
-    }
-}
-
-// Whether both fields can be written into a word's payload.
-pub(crate) fn fields_fit(item: Record) -> bool
-    ensures { result ≡ fits item }
-{
-    match item {
-        Record::Fact(f) => f.first <= FIELD_LIMIT && f.second <= FIELD_LIMIT,
-        Record::Withdrawal(f) => f.first <= FIELD_LIMIT && f.second <= FIELD_LIMIT,
-        Record::Question(q) => q.first <= FIELD_LIMIT && q.second <= FIELD_LIMIT,
+        self.questions += usize::from(item.question().is_some());
     }
 }

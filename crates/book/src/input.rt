@@ -1,5 +1,6 @@
 // The words of a byte stream, as programs read them.
-ghost use Rattle.std.specs.Prelude.{◌≡◌, ◌+◌, ◌*◌, ◌<◌, length, take, IfOk, slice_index};
+ghost use Rattle.std.specs.Prelude.{◌≡◌, take, map, IfOk};
+ghost use Rattle.std.specs.Int.{w32, from_le_bytes};
 ghost use Rattle.book.specs.Bytes.{words_in};
 
 use std::alloc::{AllocError, Global};
@@ -11,23 +12,17 @@ pub const WORD_LIMIT: usize = 8194;
 pub fn words_of(heap: Global, bytes: &[u8]) -> Result<Vec<u32>, AllocError>
     ensures { IfOk result (λ v. v.items ≡ take 8194 (words_in bytes.now)) }
 {
-    let mut words = Vec::new(heap);
-    let count = (bytes.len() / 4).min(WORD_LIMIT);
-    for i in 0..count {
-        words.push(word_at(bytes, i))?;
-    }
-    Ok(words)
+    let (quads, _) = bytes.as_chunks::<4>();
+    first_words(heap, quads)
 }
 
-// Word number `i`.
-fn word_at(bytes: &[u8], i: usize) -> u32
-    requires { 4 * i + 3 < length bytes.now }
-    ensures { result ≡ slice_index bytes.now (4 * i) + slice_index bytes.now (4 * i + 1) * 256 + slice_index bytes.now (4 * i + 2) * 65536 + slice_index bytes.now (4 * i + 3) * 16777216 }
+// The words of the first 8,194 quads of bytes.
+fn first_words(heap: Global, quads: &[[u8; 4]]) -> Result<Vec<u32>, AllocError>
+    ensures { IfOk result (λ v. v.items ≡ map (from_le_bytes w32) (take 8194 quads.now)) }
 {
-    u32::from_le_bytes([
-        bytes[4 * i],
-        bytes[4 * i + 1],
-        bytes[4 * i + 2],
-        bytes[4 * i + 3],
-    ])
+    quads
+        .iter()
+        .take(WORD_LIMIT)
+        .map(|quad| u32::from_le_bytes(*quad))
+        .collect(heap)
 }

@@ -4,6 +4,8 @@
 pub mod crowding;
 pub mod entries;
 pub mod input;
+pub mod iteration;
+mod kinds;
 pub mod loading;
 pub mod matching;
 pub mod reading;
@@ -14,6 +16,7 @@ pub mod state;
 pub mod summaries;
 pub mod words;
 
+pub use iteration::Records;
 pub use reading::Shown;
 pub use records::Record;
 pub use refusals::{EntryError, LoadError, ReadRefusal, Refusal, WordError, WordFault};

@@ -8,10 +8,9 @@ ghost use Rattle.book.specs.Words.{writes};
 use crate::records::Record;
 use crate::refusals::ReadRefusal;
 use crate::state::Book;
-use crate::words::record_at;
 
 // A record and the place of its head word among the book's words.
-#[derive(Clone, Copy)]
+#[derive(Clone, Copy, PartialEq, Eq, Debug)]
 pub struct Shown {
     pub item: Record,
     pub place: usize,
@@ -22,14 +21,11 @@ impl Book {
     pub fn read(&self, number: usize) -> Result<Shown, ReadRefusal>
         ensures { result ≡ shown_at (records_of self.now) number }
     {
-        if number >= self.records {
+        let Some(item) = self.records_from(number).next() else {
             return Err(ReadRefusal::NoSuchRecord);
-        }
-        let item = record_at(&self.words, number);
-        Ok(Shown {
-            item,
-            place: 2 * number,
-        })
+        };
+        let place = 2 * number;
+        Ok(Shown { item, place })
     }
 
     // All the words in use, two for each record.
@@ -37,7 +33,7 @@ impl Book {
         ensures { result.now ≡ writes (records_of self.now) }
     {
         let end = 2 * self.records;
-        &self.words[0..end]
+        &self.words[..end]
     }
 
     pub fn record_count(&self) -> usize

@@ -1,107 +1,61 @@
-// Passes over the words of a book.
-ghost use Rattle.std.specs.Prelude.{◌≡◌, ◌*◌, ◌≤◌, length, take, drop, if◌then◌else◌};
-ghost use Rattle.book.specs.Records.{enters, withdraws, is_question, entered_of, withdrawn_of, question_count};
-ghost use Rattle.undoable.specs.Kinds.{same};
+// Passes over the records of a book for one fact.
+ghost use Rattle.std.specs.Prelude.{◌≡◌, ◌≤◌, take};
+ghost use Rattle.book.specs.Alive.{alive, equal_to};
+ghost use Rattle.book.specs.Listed.{listed};
+ghost use Rattle.book.specs.Records.{question_count};
 ghost use Rattle.book.specs.Spans.{until};
-ghost use Rattle.book.specs.Words.{reads};
+ghost use Rattle.book.specs.View.{records_of};
 
+use crate::iteration::Records;
 use crate::records::Record;
-use crate::words::record_at;
+use crate::state::Book;
 use undoable::Fact;
 
-// What stands in the first records of a book: facts equal to a given one, withdrawals of it, and questions.
+// How many facts equal to a given one are alive after the first records of a book, and how many of these are questions.
 #[derive(Clone, Copy)]
-pub(crate) struct FrontCounts {
-    pub(crate) entered: usize,
-    pub(crate) withdrawn: usize,
+pub(crate) struct Front {
+    pub(crate) equal: usize,
     pub(crate) questions: usize,
 }
 
-// Counts in the first `n` records.
-pub(crate) fn front_counts(words: &[u32], n: usize, fact: Fact) -> FrontCounts
-    requires { 2 * n ≤ length words.now }
-    ensures entered { result.entered ≡ entered_of fact (reads (take (2 * n) words.now)) }
-    ensures withdrawn { result.withdrawn ≡ withdrawn_of fact (reads (take (2 * n) words.now)) }
-    ensures questions { result.questions ≡ question_count (reads (take (2 * n) words.now)) }
-{
-    let mut entered = 0;
-    let mut withdrawn = 0;
-    let mut questions = 0;
-    for i in 0..n {
-        let item = record_at(words, i);
-        entered += entry_of(fact, item);
-        withdrawn += withdrawal_of(fact, item);
-        questions += question_in(item);
-    }
-    FrontCounts {
-        entered,
-        withdrawn,
-        questions,
+impl Book {
+    // Each withdrawal ends one of the equal facts alive, so those are as many as were entered less those withdrawn.
+    pub(crate) fn front(&self, number: usize, fact: Fact) -> Front
+        ensures equal { result.equal ≡ equal_to fact (alive (take number (records_of self.now))) }
+        ensures questions { result.questions ≡ question_count (take number (records_of self.now)) }
+        ensures few { result.questions ≤ 4096 }
+    {
+        let mut entered = 0;
+        let mut withdrawn = 0;
+        let mut questions = 0;
+        for item in self.records_before(number) {
+            entered += usize::from(item == Record::Fact(fact));
+            withdrawn += usize::from(item == Record::Withdrawal(fact));
+            questions += usize::from(item.question().is_some());
+        }
+        Front {
+            equal: entered - withdrawn,
+            questions,
+        }
     }
 }
 
-// How many questions stand, from record `from` on, before the withdrawal of `fact` that comes after `equal` others.
-pub(crate) fn questions_until(
-    words: &[u32],
-    from: usize,
-    n: usize,
-    fact: Fact,
-    equal: usize,
-) -> usize
-    requires { (2 * n ≤ length words.now) × (from ≤ n) }
-    ensures { result ≡ until fact equal (drop from (reads (take (2 * n) words.now))) }
+// How many of the records are questions before the withdrawal of `fact` that comes after `equal` others.
+pub(crate) fn questions_until(records: Records<'_>, fact: Fact, equal: usize) -> usize
+    ensures until { result ≡ until fact equal (listed records.entry) }
+    ensures few { result ≤ 4096 }
 {
     let mut left = equal;
     let mut questions = 0;
-    for i in from..n {
-        let item = record_at(words, i);
-        let ended = withdrawal_of(fact, item);
-        if ended > left {
-            return questions;
+    for item in records {
+        if item == Record::Withdrawal(fact) {
+            if left == 0 {
+                return questions;
+            }
+            left -= 1;
+        } else if let Record::Question(_) = item {
+            questions += 1;
         }
-        left -= ended;
-        questions += question_in(item);
     }
     questions
-}
-
-// 1 for a question, else 0.
-pub(crate) fn question_in(item: Record) -> usize
-    ensures { result ≡ (if is_question item then 1 else 0) }
-{
-    match item {
-        Record::Question(_) => 1,
-        _ => 0,
-    }
-}
-
-// 1 if the record enters a fact equal to `fact`, else 0.
-fn entry_of(fact: Fact, item: Record) -> usize
-    ensures { result ≡ (if enters fact item then 1 else 0) }
-{
-    match item {
-        Record::Fact(f) => equal(fact, f),
-        _ => 0,
-    }
-}
-
-// 1 if the record withdraws a fact equal to `fact`, else 0.
-fn withdrawal_of(fact: Fact, item: Record) -> usize
-    ensures { result ≡ (if withdraws fact item then 1 else 0) }
-{
-    match item {
-        Record::Withdrawal(f) => equal(fact, f),
-        _ => 0,
-    }
-}
-
-// 1 for equal facts, else 0.
-fn equal(f: Fact, g: Fact) -> usize
-    ensures { result ≡ (if same f g then 1 else 0) }
-{
-    if f.first == g.first && f.second == g.second {
-        1
-    } else {
-        0
-    }
 }

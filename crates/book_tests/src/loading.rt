@@ -29,8 +29,9 @@ fn refuses(rt: &impl Abort, words: &[u32], error: LoadError) -> Result<(), Fail>
 
 // Makes every second word, from the first on, the head of a record.
 fn put_heads(words: &mut [u32], head: u32) {
-    for i in (0..words.len()).step_by(2) {
-        words[i] = head;
+    let (records, _) = words.as_chunks_mut::<2>();
+    for record in records {
+        record[0] = head;
     }
 }
 

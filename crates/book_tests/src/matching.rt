@@ -1,5 +1,6 @@
 // The spans of the example book, worked by hand.
 use crate::examples::example_book;
+use book::Summary;
 use std::test::Fail;
 
 #[test]
@@ -22,10 +23,14 @@ fn other_records_have_none(rt: HostRuntime) -> Result<(), Fail> {
 
 #[test]
 fn summary_counts_the_kinds_and_the_depth(rt: HostRuntime) -> Result<(), Fail> {
-    let summary = example_book()?.summary();
-    assert_eq!(rt; summary.facts, 3);
-    assert_eq!(rt; summary.withdrawals, 2);
-    assert_eq!(rt; summary.questions, 6);
-    assert_eq!(rt; summary.deepest, 3);
+    assert_eq!(rt;
+        example_book()?.summary(),
+        Summary {
+            facts: 3,
+            withdrawals: 2,
+            questions: 6,
+            deepest: 3,
+        }
+    );
     Ok(())
 }

@@ -6,13 +6,8 @@ use listing::{book_report, standard_input};
 use std::io::Write;
 
 fn main(rt: HostRuntime) -> anyhow::Result<()> {
-    print_spans(&rt)
-}
-
-fn print_spans(rt: &HostRuntime) -> anyhow::Result<()> {
-    let bytes = standard_input(rt)?;
-    let text = book_report(rt.alloc(), &bytes)?;
-    let mut out = rt.stdout();
-    out.write_all(text.as_bytes())?;
+    let bytes = standard_input(&rt)?;
+    let report = book_report(rt.alloc(), &bytes)?;
+    rt.stdout().write_all(report.as_bytes())?;
     Ok(())
 }

@@ -3,7 +3,7 @@
 // The records are not judged, so that refused books can be made too.
 #![tactic(auto)]
 
-use anyhow::anyhow;
+use anyhow::bail;
 use book::{Record, words_of_record};
 use std::io::{BufRead, BufReader, Write};
 use undoable::{Fact, Question};
@@ -14,23 +14,18 @@ fn main(rt: HostRuntime) -> anyhow::Result<()> {
 
 fn convert(rt: &HostRuntime) -> anyhow::Result<()> {
     let mut out = rt.stdout();
-    let mut number = 0u64;
-    for line in BufReader::new(rt.alloc(), rt.stdin())?.lines(rt.alloc()) {
+    let lines = BufReader::new(rt.alloc(), rt.stdin())?.lines(rt.alloc());
+    for (number, line) in (1..u64::MAX).zip(lines) {
         let line = line?;
-        number = number.saturating_add(1);
         if line.as_str().trim().is_empty() {
             continue;
         }
-        match line_words(line.as_str()) {
-            Some((head, second)) => {
-                out.write_all(&head.to_le_bytes())?;
-                out.write_all(&second.to_le_bytes())?;
-            }
-            None => {
-                eprintln!(rt; "line {number} is no record")?;
-                return Err(anyhow!("not converted"));
-            }
-        }
+        let Some((head, second)) = line_words(line.as_str()) else {
+            eprintln!(rt; "line {number} is no record")?;
+            bail!("not converted");
+        };
+        out.write_all(&head.to_le_bytes())?;
+        out.write_all(&second.to_le_bytes())?;
     }
     Ok(())
 }

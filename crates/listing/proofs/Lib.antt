@@ -1,6 +1,4 @@
-pub mod Shows
-pub mod Loadings
-pub mod Lengths
-pub mod Rooms
+pub mod Ahead
 pub mod Writes
-pub mod Texts
+pub mod Spanning
+pub mod Loadings

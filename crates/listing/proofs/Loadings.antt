@@ -1,28 +1,15 @@
 -- What is printed after one load is what the words come to.
-use Rattle.std.proofs.Common.{◌≡◌, ℕ, List, [], ◌∷◌, ◌++◌, Ok, Err, vec_items, Result, Vec, sym, refl, ap, ◌∙◌}
-use Rattle.std.specs.declared.alloc.Global.{Global}
-use Rattle.std.proofs.lemmas.List.{same_from_push}
+use Rattle.std.proofs.Common.{◌≡◌, List, [], ◌∷◌, Some, None, Ok, Err, Result, sym, ap}
 use Rattle.book.specs.declared.records.Record.{Record}
 use Rattle.book.specs.declared.refusals.LoadError.{LoadError}
-use Rattle.book.specs.Loads.{loads, load_result, after_load}
-use Rattle.session.specs.declared.calls.Call.{Call}
-use Rattle.session.specs.declared.calls.Call.TheVariants as call
-use Rattle.session.specs.declared.calls.Outcome.{Outcome}
+use Rattle.book.specs.Loads.{load_result, after_load}
 use Rattle.session.specs.declared.calls.Outcome.TheVariants.{Loaded}
-use Rattle.session.specs.Model.{start, outcomes, finally}
-use Rattle.session.specs.Theorems.{Plays}
-use Rattle.undoable.specs.declared.facts.Fact.{Fact}
-use Rattle.undoable.specs.Kinds.{Kind}
-use Rattle.listing.specs.Lines.{text_of_outcome, report_of}
+use Rattle.listing.specs.Lines.{refused_line, listing_of_spans, refusal_in, report_of}
 
-answered : (x : Result (List Record) LoadError) (old : List Record) → text_of_outcome (after_load old x) (Loaded (load_result x)) ≡ report_of x
-answered (Ok qs) old = refl
-answered (Err e) old = refl
+pub refusal_told : (x : Result (List Record) LoadError) (e : LoadError) → Some e ≡ refusal_in (Loaded (load_result x) ∷ []) → report_of x ≡ refused_line e
+refusal_told (Ok rs) e p = cc
+refusal_told (Err f) e p = let same : f ≡ e = cc in ap refused_line same
 
-pub one_load :
-    (k : Kind) (old rs : List Record) (s s' : List Fact) (t t' : ℕ) (cs : List Call) (ws : Vec ℕ Global) (log front : List Outcome) (heights : List ℕ) (o : Outcome) → cs ≡ call.Load ws ∷ [] → Plays k old s t cs log heights rs s' t' → log ≡ front ++ o ∷ [] → text_of_outcome rs o ≡ report_of (loads (vec_items ws))
-one_load k old rs s s' t t' cs ws log front heights o one plays last =
-    let told = plays.told ∙ ap (outcomes k (start old s t)) one in
-    let left : rs ≡ after_load old (loads (vec_items ws)) = plays.records_left ∙ ap (λ l. (finally k (start old s t) l).records) one in
-    let same = (same_from_push [] front (Loaded (load_result (loads (vec_items ws)))) o (sym told ∙ last)).1 in
-    (λ i. text_of_outcome (left i) (sym same i)) ∙ answered (loads (vec_items ws)) old
+pub listing_told : (x : Result (List Record) LoadError) (old rs : List Record) → None ≡ refusal_in (Loaded (load_result x) ∷ []) → rs ≡ after_load old x → report_of x ≡ listing_of_spans rs
+listing_told (Ok rs) old new p e = ap listing_of_spans (sym e)
+listing_told (Err f) old new p e = cc

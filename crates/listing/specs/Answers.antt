@@ -38,7 +38,7 @@ abbrev pub written_table : List ℕ → List ℕ → List ℕ
 written_table text old = cond (nat_le (length text) (length old)) (text ++ drop (length text) old) old
 
 -- a table after a text is written from a place on
-abbrev pub written_at : ℕ → List ℕ → List ℕ → List ℕ
+unfoldable pub written_at : ℕ → List ℕ → List ℕ → List ℕ
 written_at place text old = take place old ++ (text ++ drop (place + length text) old)
 
 -- how many bytes of so much room a text leaves free

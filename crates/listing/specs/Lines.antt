@@ -1,5 +1,5 @@
 -- The bytes of the lines that programs print. Numbers are decimal without leading zeros, and each line ends with byte 10.
-use Rattle.std.specs.Prelude.{ℕ, suc, List, [], ◌∷◌, ◌++◌, Ok, Err, codes, decimal, Result}
+use Rattle.std.specs.Prelude.{ℕ, suc, List, [], ◌∷◌, ◌++◌, Ok, Err, Some, None, codes, decimal, Result, Option}
 use Rattle.undoable.specs.declared.facts.Fact.{Fact}
 use Rattle.book.specs.declared.records.Record.{Record}
 use Rattle.book.specs.declared.records.Record.TheVariants as is
@@ -8,7 +8,7 @@ use Rattle.book.specs.Numbers.{number_of, place_of}
 use Rattle.book.specs.Records.{fact_count, withdrawal_count, question_count}
 use Rattle.book.specs.Spans.{span, deepest_of}
 use Rattle.session.specs.declared.calls.Outcome.{Outcome}
-use Rattle.session.specs.declared.calls.Outcome.TheVariants.{Entered, Loaded, Pushed, Popped, Answered, Marked, RolledBack, Kept, NoSuchMark}
+use Rattle.session.specs.declared.calls.Outcome.TheVariants.{Loaded}
 
 -- a fact's record, its fields and its span
 abbrev pub line_of_span : ℕ → Fact → ℕ × ℕ → List ℕ
@@ -44,15 +44,7 @@ abbrev pub report_of : Result (List Record) LoadError → List ℕ
 report_of (Ok rs) = listing_of_spans rs
 report_of (Err e) = refused_line e
 
--- the text after a call: the listing of the book as it now is, or the refusal of a load
-abbrev pub text_of_outcome : List Record → Outcome → List ℕ
-text_of_outcome rs (Entered r) = listing_of_spans rs
-text_of_outcome rs (Loaded (Ok u)) = listing_of_spans rs
-text_of_outcome rs (Loaded (Err e)) = refused_line e
-text_of_outcome rs (Pushed r) = listing_of_spans rs
-text_of_outcome rs (Popped r) = listing_of_spans rs
-text_of_outcome rs (Answered r) = listing_of_spans rs
-text_of_outcome rs (Marked n) = listing_of_spans rs
-text_of_outcome rs (RolledBack n) = listing_of_spans rs
-text_of_outcome rs Kept = listing_of_spans rs
-text_of_outcome rs NoSuchMark = listing_of_spans rs
+-- the refusal of a load, if a load was the one call
+abbrev pub refusal_in : List Outcome → Option LoadError
+refusal_in (Loaded (Err e) ∷ []) = Some e
+refusal_in _ = None

@@ -4,6 +4,7 @@
 pub mod answers;
 mod bytes;
 pub mod console;
+mod lines;
 pub mod reports;
 pub mod spans;
 

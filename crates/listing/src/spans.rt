@@ -1,24 +1,37 @@
 // The listing of a book: a line for each fact, from which question to which it is alive, and four lines of counts.
-ghost use Rattle.std.specs.Prelude.{◌≡◌, ◌++◌, drop, IfOk, Some, string_bytes};
-ghost use Rattle.book.specs.Spans.{fact_within, span};
+ghost use Rattle.std.specs.Prelude.{◌≡◌, IfOk, Some, string_bytes};
 ghost use Rattle.book.specs.View.{records_of};
-ghost use Rattle.listing.specs.Lines.{line_of_span, first_line, lines_of_counts, text_of_counts, listing_of_spans, refused_line};
+ghost use Rattle.listing.specs.Lines.{line_of_span, text_of_counts, listing_of_spans, refused_line};
 
-use book::{Book, LoadError, Record};
+use crate::lines::Line;
+use book::summaries::Summary;
+use book::{Book, LoadError};
 use std::alloc::{AllocError, Global};
+use std::fmt;
 use undoable::Fact;
 
-// The whole listing of a book's spans.
+// The whole listing of a book's spans. It and the text of a line are compiled apart, since the matching that is inlined here is
+// slower in one function with the load or with the formatting.
+#[tactic(auto, using(crate::proofs::Spanning::spanning))]
+#[inline(never)]
 pub fn span_listing(heap: Global, book: &Book) -> Result<String, AllocError>
     ensures { IfOk result (λ t. string_bytes t ≡ listing_of_spans (records_of book.now)) }
 {
     let mut text = String::new(heap);
-    for number in 0..book.record_count() {
-        let line = line_at(heap, book, number)?;
-        text.push_str(line.as_str())?;
+    for (number, item) in book.records().enumerate() {
+        if let Some(fact) = item.fact()
+            && let Some(alive) = book.span(number)
+        {
+            let line = SpanLine {
+                number,
+                fact,
+                alive,
+            };
+            write!(text, "{line}")?;
+        }
     }
-    let counts = count_lines(heap, book)?;
-    text.push_str(counts.as_str())?;
+    let counts = Counts(book.summary());
+    write!(text, "{counts}")?;
     Ok(text)
 }
 
@@ -26,73 +39,50 @@ pub fn span_listing(heap: Global, book: &Book) -> Result<String, AllocError>
 pub fn refusal_line(heap: Global, error: &LoadError) -> Result<String, AllocError>
     ensures { IfOk result (λ t. string_bytes t ≡ refused_line error.now) }
 {
-    let number = error.number();
-    let place = error.place();
-    format!(in heap; "refused {number} at {place}\n")
+    Line::refusal(error.number(), error.place()).to_string(heap)
 }
 
-// The line of record number `number`: nothing if it is no fact.
-fn line_at(heap: Global, book: &Book, number: usize) -> Result<String, AllocError>
-    ensures { IfOk result (λ t. string_bytes t ≡ first_line (records_of book.now) number (drop number (records_of book.now))) }
-{
-    match book.read(number) {
-        Err(_) => Ok(String::new(heap)),
-        Ok(shown) => match shown.item {
-            Record::Fact(f) => fact_line(heap, book, number, f),
-            Record::Withdrawal(_) => Ok(String::new(heap)),
-            Record::Question(_) => Ok(String::new(heap)),
-        },
-    }
-}
-
-// The line of a record that enters a fact.
-fn fact_line(heap: Global, book: &Book, number: usize, fact: Fact) -> Result<String, AllocError>
-    requires { fact_within (drop number (records_of book.now)) ≡ Some fact }
-    ensures { IfOk result (λ t. string_bytes t ≡ line_of_span number fact (span (records_of book.now) number fact)) }
-{
-    match book.span(number) {
-        Some(alive) => span_line(heap, number, fact, alive),
-        None => Ok(String::new(heap)),
-    }
-}
-
-fn span_line(
-    heap: Global,
+// The line of a fact: the number of its record, its fields and its span.
+#[derive(Clone, Copy)]
+struct SpanLine {
     number: usize,
     fact: Fact,
     alive: (usize, usize),
-) -> Result<String, AllocError>
-    ensures { IfOk result (λ t. string_bytes t ≡ line_of_span number fact alive) }
-{
-    let first = fact.first;
-    let second = fact.second;
-    let (s, e) = alive;
-    format!(in heap; "record {number} fact {first} {second} span {s} {e}\n")
 }
 
-fn count_lines(heap: Global, book: &Book) -> Result<String, AllocError>
-    ensures { IfOk result (λ t. string_bytes t ≡ lines_of_counts (records_of book.now)) }
-{
-    let summary = book.summary();
-    counts_text(
-        heap,
-        summary.facts,
-        summary.withdrawals,
-        summary.questions,
-        summary.deepest,
-    )
+impl fmt::Display for SpanLine {
+    ghost output = { λ l. Some (line_of_span l.number l.fact l.alive) };
+
+    #[inline(never)]
+    fn fmt<W: fmt::Write>(&self, f: &mut fmt::Formatter<W>) -> fmt::Result {
+        let SpanLine {
+            number,
+            fact: Fact { first, second },
+            alive: (start, end),
+        } = *self;
+        writeln!(
+            f,
+            "record {number} fact {first} {second} span {start} {end}"
+        )
+    }
 }
 
-fn counts_text(
-    heap: Global,
-    facts: usize,
-    withdrawals: usize,
-    questions: usize,
-    deepest: usize,
-) -> Result<String, AllocError>
-    ensures { IfOk result (λ t. string_bytes t ≡ text_of_counts facts withdrawals questions deepest) }
-{
-    format!(in heap;
-        "facts {facts}\nwithdrawals {withdrawals}\nquestions {questions}\ndeepest {deepest}\n"
-    )
+#[derive(Clone, Copy)]
+struct Counts(Summary);
+
+impl fmt::Display for Counts {
+    ghost output = { λ c. Some (text_of_counts c.0.facts c.0.withdrawals c.0.questions c.0.deepest) };
+
+    fn fmt<W: fmt::Write>(&self, f: &mut fmt::Formatter<W>) -> fmt::Result {
+        let Summary {
+            facts,
+            withdrawals,
+            questions,
+            deepest,
+        } = self.0;
+        writeln!(
+            f,
+            "facts {facts}\nwithdrawals {withdrawals}\nquestions {questions}\ndeepest {deepest}"
+        )
+    }
 }

@@ -1,7 +1,9 @@
 pub mod Highest
-pub mod Gone
+pub mod Spanned
 pub mod Adding
+pub mod Turning
 pub mod Spanning
+pub mod Standing
 pub mod Fielding
 pub mod Selections
 pub mod Swapping

@@ -1,7 +1,7 @@
 -- The rule is about selections: it is 1 exactly if some selection of the entries has the mask as its exclusive or.
 use Rattle.std.proofs.Common.{◌≡◌, ℕ, suc, Bool, true, false, cond, List, [], ◌∷◌, length, sym, refl, ap, ◌∙◌, ⊎_elim, arith}
 use lib.Bits.{bit_xor, xor_comm}
-use Rattle.std.proofs.lemmas.Bool.{cases_Bool, cond-true, cond-false, eqb-true, eq-eqb, or_cases, or_left, or_right}
+use Rattle.std.proofs.lemmas.Bool.{cond-true, eqb-true, eq-eqb, or_cases, or_left, or_right}
 use Rattle.undoable.specs.declared.facts.Fact.{Fact}
 use Rattle.masks.specs.Rule.{mask_of, asked_of, chosen, is_sum, SumOf, Answers, SumsOfSelections, ZeroIsSum}
 use Rattle.masks.proofs.Highest.{xor_again}
@@ -26,26 +26,21 @@ is (f ∷ fs) (false ∷ bs) m l e = or_left _ _ (is fs bs m (omega arith) e)
 
 -- the answer by its test
 answers : (fs : List Fact) (m : ℕ) → Answers fs m (cond (is_sum fs m) 1 0)
-answers fs m =
-    ⊎_elim
-    (λ (e : is_sum fs m ≡ true).
-    let one : ◌≡◌ {A = ℕ} (cond (is_sum fs m) 1 0) 1 = cond-true _ _ _ e in
-    record {
-      one_has = λ _. has fs m e;
-      has_one = λ _. one;
-      zero_lacks = λ z _. omega (arith, one, z);
-      lacks_zero = λ n. absurd (n (has fs m e));
-    })
-    (λ (e : is_sum fs m ≡ false).
-    let none : ◌≡◌ {A = ℕ} (cond (is_sum fs m) 1 0) 0 = cond-false _ _ _ e in
-    let no : SumOf fs m → ⊥ = λ t. let one : ◌≡◌ {A = ℕ} (cond (is_sum fs m) 1 0) 1 = cond-true _ _ _ (is fs t.0 m t.1 t.2) in omega (arith, one, none) in
-    record {
-      one_has = λ o. absurd (omega (arith, o, none));
-      has_one = λ t. absurd (no t);
-      zero_lacks = λ _. no;
-      lacks_zero = λ _. none;
-    })
-    (cases_Bool (is_sum fs m))
+answers fs m = record {
+  one_has = λ o. has fs m (one_is (is_sum fs m) o);
+  has_one = λ t. is_one (is_sum fs m) (is fs t.0 m t.1 t.2);
+  zero_lacks = λ z t. omega (arith, z, is_one (is_sum fs m) (is fs t.0 m t.1 t.2));
+  lacks_zero = λ n. none_is (is_sum fs m) (λ e. n (has fs m e));
+}
+  where
+    one_is : (t : Bool) → ◌≡◌ {A = ℕ} (cond t 1 0) 1 → t ≡ true
+    one_is t e = grind arith
+
+    is_one : (t : Bool) → t ≡ true → ◌≡◌ {A = ℕ} (cond t 1 0) 1
+    is_one t e = grind arith
+
+    none_is : (t : Bool) → (t ≡ true → ⊥) → ◌≡◌ {A = ℕ} (cond t 1 0) 0
+    none_is t n = grind arith
 
 pub sums_of_selections : SumsOfSelections
 sums_of_selections c fs q = answers fs (asked_of q)

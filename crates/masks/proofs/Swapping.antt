@@ -1,5 +1,5 @@
 -- The order of the facts does not matter: two neighbours can be swapped.
-use Rattle.std.proofs.Common.{◌≡◌, ℕ, Bool, true, false, cond, ◌||◌, List, ◌∷◌, refl, ap, ◌∙◌}
+use Rattle.std.proofs.Common.{◌≡◌, ℕ, Bool, cond, ◌||◌, List, ◌∷◌, refl, ap, ◌∙◌, arith}
 use lib.Bits.{bit_xor}
 use Rattle.undoable.specs.declared.facts.Fact.{Fact}
 use Rattle.undoable.specs.Kinds.{OrderBlind}
@@ -9,10 +9,7 @@ use Rattle.masks.proofs.Highest.{xor_turn}
 
 -- the middle two of four tests
 between : (a b c d : Bool) → ((a || b) || (c || d)) ≡ ((a || c) || (b || d))
-between true b c d = refl
-between false true true d = refl
-between false true false d = refl
-between false false c d = refl
+between a b c d = grind arith
 
 swapped : (x y : Fact) (xs : List Fact) (m : ℕ) → is_sum (x ∷ (y ∷ xs)) m ≡ is_sum (y ∷ (x ∷ xs)) m
 swapped x y xs m =

@@ -1,5 +1,5 @@
 -- A basis of masks and what it leaves of a mask, for private contracts. Masks that are listed stand newest first.
-use Rattle.std.specs.Prelude.{◌≡◌, ℕ, zero, suc, ◌-◌, ◌^◌, ◌<◌, ◌≤◌, Bool, true, cond, ◌&&◌, ◌⊎◌, List, [], ◌∷◌, replicate, Some, None, Option, ◌==◌, bit_xor, nat_lt, slice_index, slice_set}
+use Rattle.std.specs.Prelude.{ℕ, zero, suc, ◌-◌, ◌^◌, ◌<◌, ◌≤◌, Bool, true, cond, ◌&&◌, ◌≢◌, List, [], ◌∷◌, replicate, Some, None, Option, ◌==◌, bit_xor, nat_lt, slice_index, slice_set}
 use Rattle.std.specs.Int.Count.{count_leading_zeros}
 
 -- the slot of a mask: the place of its highest bit
@@ -19,6 +19,10 @@ with_rest b r = cond (r == 0) b (slice_set b (slot_of r) r)
 abbrev pub slot_filled : ℕ → Option ℕ
 slot_filled r = cond (r == 0) None (Some (slot_of r))
 
+-- what is left of a mask and its slot, if anything is left
+abbrev pub left_of : List ℕ → ℕ → Option (ℕ × ℕ)
+left_of b m = let r = reduced b 58 m in cond (r == 0) None (Some (slot_of r, r))
+
 abbrev pub added : List ℕ → ℕ → List ℕ
 added b m = with_rest b (reduced b 58 m)
 
@@ -30,10 +34,6 @@ abbrev pub cleared : List ℕ → Option ℕ → List ℕ
 cleared b None = b
 cleared b (Some k) = slice_set b k 0
 
-abbrev pub clears : Option ℕ → Bool
-clears None = true
-clears (Some k) = nat_lt k 58
-
 -- the basis that masks make
 unfoldable pub basis_of : List ℕ → List ℕ
 basis_of [] = replicate 58 0
@@ -41,7 +41,7 @@ basis_of (m ∷ ms) = added (basis_of ms) m
 
 -- every full slot holds a mask of that slot
 abbrev pub Shaped : List ℕ → Type 0
-Shaped b = (k : ℕ) → (slice_index b k ≡ 0) ⊎ ((2 ^ k ≤ slice_index b k) × (slice_index b k < 2 ^ suc k))
+Shaped b = (k : ℕ) → slice_index b k ≢ 0 → (2 ^ k ≤ slice_index b k) × (slice_index b k < 2 ^ suc k)
 
 -- every mask has at most 58 bits
 abbrev pub small : List ℕ → Bool

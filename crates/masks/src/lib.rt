@@ -3,8 +3,8 @@
 
 mod basis;
 pub mod calls;
-mod fields;
 pub mod lines;
+mod mask;
 pub mod structure;
 
 pub use lines::MaskStep;

@@ -10,7 +10,7 @@ module _ (a : ℕ) (r : ℕ → ℕ) (v : ℕ) where
   some_le : (k : ℕ) → k * a ≤ v → with_some a r v k ≤ k + r (v - k * a)
   some_le k h = let e : with_some a r v k ≡ min (k + r (v - k * a)) 1001 = cond-true _ _ _ (le-leb (k * a) v h) in omega (arith, e)
 
-  some_most : (k : ℕ) → with_some a r v k ≤ 1001
+  pub some_most : (k : ℕ) → with_some a r v k ≤ 1001
   some_most k =
       ⊎_elim
       (λ (h : leb (k * a) v ≡ true). let e : with_some a r v k ≡ min (k + r (v - k * a)) 1001 = cond-true _ _ _ h in omega (arith, e))

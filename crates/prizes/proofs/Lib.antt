@@ -1,5 +1,8 @@
 pub mod Leasts
 pub mod Swapping
 pub mod Steps
-pub mod Parting
 pub mod Rowing
+pub mod Filling
+pub mod Saving
+pub mod Histories
+pub mod Holding

@@ -1,31 +1,42 @@
--- One prize more of the same amount, and the end where the payout is too small for one more.
-use Rattle.std.proofs.Common.{◌≡◌, ℕ, zero, suc, ◌+◌, ◌-◌, ◌*◌, ◌<◌, ◌≤◌, min, sym, ap, ◌∙◌, ⊎_elim, add-one, arith}
+-- The least over fewer than n prizes of the same amount: one prize more, and the end where the payout is too small for one more.
+use Rattle.std.proofs.Common.{◌≡◌, ℕ, zero, suc, ◌+◌, ◌-◌, ◌*◌, ◌<◌, ◌≤◌, min, ap, sym, ◌∙◌, ⊎_elim, add-one, arith}
 use Rattle.std.proofs.lemmas.Nat.{mul-le}
 use Rattle.std.proofs.lemmas.Bool.{cases_lt, cond-true, cond-false, le-leb, lt-leb}
 use Rattle.prizes.specs.Rule.{with_some, with_most}
-use Rattle.prizes.proofs.Leasts.{most_most}
+use Rattle.prizes.proofs.Leasts.{some_most, most_most}
 
 module _ (a : ℕ) (r : ℕ → ℕ) (v : ℕ) where
-  pub most_none : min (r v) 1001 ≡ with_most a r v 0
-  most_none =
-      let z : 0 * a ≡ 0 = omega arith in
-      let w : v - 0 * a ≡ v = omega (arith, z) in
-      sym (cond-true _ _ _ (le-leb (0 * a) v (omega (arith, z))) ∙ ap (λ x. min (0 + r x) 1001) w ∙ omega arith)
+  abbrev pub least_below : ℕ → ℕ
+  least_below zero = 1001
+  least_below (suc n) = with_most a r v n
 
-  pub most_more : (i : ℕ) → (i + 1) * a ≤ v → min (with_most a r v i) (i + 1 + r (v - (i + 1) * a)) ≡ with_most a r v (i + 1)
-  most_more i h =
-      let s : with_some a r v (i + 1) ≡ min (i + 1 + r (v - (i + 1) * a)) 1001 = cond-true _ _ _ (le-leb ((i + 1) * a) v h) in
-      let m : with_most a r v (i + 1) ≡ min (with_most a r v i) (with_some a r v (i + 1)) = ap (with_most a r v) (add-one i) ∙ ap (λ k. min (with_most a r v i) (with_some a r v k)) (sym (add-one i)) in
-      omega (arith, s, m, most_most a r v i)
+  below_next : (n : ℕ) → least_below (suc n) ≡ min (least_below n) (with_some a r v n)
+  below_next zero = omega (arith, some_most a r v 0)
+  below_next (suc n) = omega arith
 
-  pub most_stop : (i n : ℕ) → i ≤ n → v < (i + 1) * a → with_most a r v n ≡ with_most a r v i
-  most_stop i zero h p = let z : i ≡ 0 = omega arith in ap (with_most a r v) (sym z)
-  most_stop i (suc n) h p =
+  below_most : (n : ℕ) → least_below n ≤ 1001
+  below_most zero = omega arith
+  below_most (suc n) = most_most a r v n
+
+  pub below_more : (n : ℕ) → n * a ≤ v → min (least_below n) (n + r (v - n * a)) ≡ least_below (n + 1)
+  below_more n h =
+      let s : with_some a r v n ≡ min (n + r (v - n * a)) 1001 = cond-true _ _ _ (le-leb (n * a) v h) in
+      omega (arith, s, below_next n, below_most n, ap least_below (add-one n))
+
+  below_stop : (n m : ℕ) → n ≤ m → v < n * a → least_below m ≡ least_below n
+  below_stop n zero h p = let z : 0 ≡ n = omega arith in ap least_below z
+  below_stop n (suc m) h p =
       ⊎_elim
-      (λ (l : i < suc n).
-      let big : v < suc n * a = omega (arith, mul-le (i + 1) a (suc n) a (omega arith) (omega arith)) in
-      let s : with_some a r v (suc n) ≡ 1001 = cond-false _ _ _ (lt-leb (suc n * a) v big) in
-      let m : with_most a r v (suc n) ≡ with_most a r v n = omega (arith, s, most_most a r v n) in
-      m ∙ most_stop i n (omega arith) p)
-      (λ (l : suc n ≤ i). let z : suc n ≡ i = omega arith in ap (with_most a r v) z)
-      (cases_lt i (suc n))
+      (λ (l : n < suc m).
+      let big : v < m * a = omega (arith, mul-le n a m a (omega arith) (omega arith)) in
+      let s : with_some a r v m ≡ 1001 = cond-false _ _ _ (lt-leb (m * a) v big) in
+      omega (arith, s, below_next m, below_most m, below_stop n m (omega arith) p))
+      (λ (l : suc m ≤ n). let z : suc m ≡ n = omega arith in ap least_below z)
+      (cases_lt n (suc m))
+
+  -- all the prizes, or as many as the payout holds
+  pub below_all : (n m : ℕ) → n ≡ m + 1 → least_below n ≡ with_most a r v m
+  below_all n m e = ap least_below e ∙ ap least_below (add-one m)
+
+  pub below_end : (n m : ℕ) → n ≤ m → v < n * a → least_below n ≡ with_most a r v m
+  below_end n m h p = sym (below_stop n (suc m) (omega arith) p)

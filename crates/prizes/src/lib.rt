@@ -7,4 +7,5 @@ mod rows;
 pub mod structure;
 
 pub use lines::Prize;
+pub use rows::{NO_SELECTION, ROW_ENTRIES};
 pub use structure::Prizes;

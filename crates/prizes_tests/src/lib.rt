@@ -6,4 +6,6 @@ mod answers;
 #[cfg(test)]
 mod limits;
 #[cfg(test)]
+mod pairs;
+#[cfg(test)]
 mod runs;

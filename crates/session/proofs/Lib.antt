@@ -1,3 +1,2 @@
 pub mod Undoing
-pub mod Placing
-pub mod Turns
+pub mod Noting

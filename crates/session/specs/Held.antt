@@ -1,31 +1,29 @@
 -- The marks that a session holds, as the model notes them.
-use Rattle.std.specs.Prelude.{ℕ, suc, cond, List, [], ◌∷◌, map, Some, None, vec_items, Option, ◌==◌}
-use Rattle.book.specs.declared.records.Record.{Record}
-use Rattle.undoable.specs.declared.facts.Fact.{Fact}
+use Rattle.std.specs.Prelude.{◌≡◌, ℕ, suc, ◌-◌, ◌≤◌, List, [], ◌∷◌, Some, None, vec_items, vec_len, vec_capacity, Option}
 use Rattle.undoable.specs.declared.marks.Mark.{Mark}
-use Rattle.session.specs.declared.held.Held.{Held}
-use Rattle.session.specs.declared.held.Marks.{Marks}
-use Rattle.session.specs.Model.{Noted, State}
+use Rattle.session.specs.declared.held.Marks.TheInside.{Inside}
+use Rattle.session.specs.Model.{Noted}
 
-abbrev pub note_of : Held → Noted
-note_of m = record { number = m.number; height = m.mark.height }
+-- how many marks are taken, those that are not given back, and how many more have room
+pub record Notes : Type 0 where
+  pub taken : ℕ
+  pub noted : List Noted
+  pub room : ℕ
 
-abbrev pub notes : Marks → List Noted
-notes ms = map note_of (vec_items ms.held)
+-- the marks held at the numbers from n on
+abbrev pub noted_from : ℕ → List (Option Mark) → List Noted
+noted_from n [] = []
+noted_from n (None ∷ ms) = noted_from (suc n) ms
+noted_from n (Some m ∷ ms) = record { number = n; height = m.height } ∷ noted_from (suc n) ms
 
-abbrev pub heights_of : List Held → List ℕ
-heights_of xs = map (λ m. m.mark.height) xs
+abbrev pub notes_of : Inside → Notes
+notes_of a = record { taken = vec_len a.held; noted = noted_from 0 (vec_items a.held); room = vec_capacity a.held - vec_len a.held }
 
--- how many marks stand before mark number n, or how many there are, if it is not among them
-abbrev pub place_of : ℕ → List Noted → ℕ
-place_of n [] = 0
-place_of n (m ∷ ms) = cond (m.number == n) 0 (suc (place_of n ms))
+-- each mark that has room has room for its height, too
+abbrev pub HeightsReserved : Inside → Type 0
+HeightsReserved a = (vec_len a.heights ≡ 0) × (vec_capacity a.held ≤ vec_capacity a.heights)
 
 -- the height of a mark that was found
 abbrev pub height_in : Option Mark → Option ℕ
 height_in None = None
 height_in (Some m) = Some m.height
-
--- the model's state, of what the session holds
-abbrev pub state_of : List Record → List Fact → ℕ → Marks → State
-state_of rs s t ms = record { records = rs; stack = s; tally = t; taken = ms.taken; marks = notes ms }

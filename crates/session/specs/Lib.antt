@@ -1,3 +1,4 @@
 pub mod Model
 pub mod Held
+pub mod Sessions
 pub mod Theorems

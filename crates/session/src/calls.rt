@@ -3,7 +3,7 @@ use book::{LoadError, Refusal};
 use undoable::{AskRefusal, Fact, PopRefusal, PushRefusal, Question};
 
 // A load brings its own words. A roll back and a keep name a mark by its number among the marks taken in the list.
-#[derive(Drop)]
+#[derive(PartialEq, Eq, Debug, Drop)]
 pub enum Call {
     Fact(Fact),
     Withdrawal(Fact),
@@ -19,7 +19,7 @@ pub enum Call {
 
 // `Marked` has the mark's number, `RolledBack` how many facts were popped. `NoSuchMark`: the named mark was never taken in the
 // list, or is given back already; the call changes nothing.
-#[derive(Clone, Copy)]
+#[derive(Clone, Copy, PartialEq, Eq, Debug)]
 pub enum Outcome {
     Entered(Result<(), Refusal>),
     Loaded(Result<(), LoadError>),
@@ -34,7 +34,7 @@ pub enum Outcome {
 
 // What came of a list of calls: the outcomes in order, and the heights of the marks that were not given back, in the order
 // in which they were taken.
-#[derive(Drop)]
+#[derive(PartialEq, Eq, Debug, Drop)]
 pub struct Log {
     pub outcomes: Vec<Outcome>,
     pub marks: Vec<usize>,

@@ -3,6 +3,7 @@
 
 pub mod calls;
 mod held;
+mod performing;
 pub mod running;
 
 pub use calls::{Call, Log, Outcome};

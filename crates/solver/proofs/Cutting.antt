@@ -1,9 +1,11 @@
--- The pieces below a node: none if it is apart from the span, itself if it is inside, else those of its halves.
-use Rattle.std.proofs.Common.{◌≡◌, ℕ, zero, suc, ◌-◌, ◌<◌, ◌≤◌, Bool, true, false, cond, not, leb, ◌⊎◌, List, [], ◌∷◌, ◌++◌, map, Some, filter, Option, sym, refl, ap, ◌∙◌, inl, inr, ⊎_elim, arith}
+-- The pieces below a node: none if it is apart from the span, itself if it is inside, else those of its halves. What holds by these
+-- three ways holds of all pieces.
+use Rattle.std.proofs.Common.{◌≡◌, ℕ, zero, suc, ◌+◌, ◌-◌, ◌*◌, ◌<◌, ◌≤◌, Bool, true, false, cond, not, ltb, leb, ◌⊎◌, List, [], ◌∷◌, ◌++◌, map, Some, None, filter, Option, sym, refl, ap, ◌∙◌, subst, inl, inr, ⊎_elim, arith}
 use Rattle.std.proofs.lemmas.List.Elements.{filter-append}
 use Rattle.std.proofs.lemmas.List.{map-append}
-use Rattle.std.proofs.lemmas.Bool.{cases_Bool, cases_lt, cond-true, cond-false, le-leb, lt-leb, and_from, and_left, and_right}
-use Rattle.solver.specs.Tree.{Node, Placed, middle, nodes_from, inside, parent_inside, is_piece, pieces_below}
+use Rattle.std.proofs.lemmas.Bool.{cases_Bool, cases_lt, cond-true, cond-false, le-leb, lt-leb, lt-ltb, and_from, and_left, and_right}
+use Rattle.solver.proofs.Descending.{by_overlap, inside_yes, inside_no}
+use Rattle.solver.specs.Tree.{Node, Placed, middle, nodes_from, parent_inside, is_piece, pieces_below, pieces_of}
 
 module _ (s e : ℕ) where
   abbrev span : ℕ × ℕ
@@ -12,14 +14,8 @@ module _ (s e : ℕ) where
   abbrev at : ℕ → ℕ → Node
   at lo hi = record { lo = lo; hi = hi }
 
-  abbrev pub below : ℕ → Option Node → ℕ → ℕ → List Node
+  abbrev below : ℕ → Option Node → ℕ → ℕ → List Node
   below n p lo hi = pieces_below span n p lo hi
-
-  inside_yes : (lo hi : ℕ) → s ≤ lo → hi ≤ e → inside span (at lo hi) ≡ true
-  inside_yes lo hi a b = and_from _ _ (le-leb s lo a) (le-leb hi e b)
-
-  pub inside_no : (lo hi : ℕ) → (lo < s) ⊎ (e < hi) → inside span (at lo hi) ≡ false
-  inside_no lo hi c = ⊎_elim (λ a. and_left _ _ (lt-leb s lo a)) (λ b. and_right _ _ (lt-leb hi e b)) c
 
   -- the two children's pieces, if there are children
   abbrev halves : ℕ → ℕ → ℕ → List Node
@@ -49,7 +45,7 @@ module _ (s e : ℕ) where
   none_inside zero lo hi p i a l b = refl
   none_inside (suc n) lo hi p i a l b =
       let no : is_piece span (record { node = at lo hi; parent = p }) ≡ false = and_right _ _ (ap not i) in
-      let v = inside_yes lo hi a b in
+      let v = inside_yes s e lo hi a b in
       let left = none_inside n lo (middle lo hi) (Some (at lo hi)) v a (omega arith) (omega arith) in
       let right = none_inside n (middle lo hi) hi (Some (at lo hi)) v (omega arith) (omega arith) b in
       skipped n lo hi p no ∙ ap (λ l. cond (leb 2 (hi - lo)) l []) (λ j. left j ++ right j) ∙ both (leb 2 (hi - lo))
@@ -59,9 +55,9 @@ module _ (s e : ℕ) where
       both false = refl
 
   -- a node inside the span whose parent is not
-  pub whole : (n lo hi : ℕ) (p : Option Node) → parent_inside span p ≡ false → s ≤ lo → lo ≤ hi → hi ≤ e → below (suc n) p lo hi ≡ at lo hi ∷ []
+  whole : (n lo hi : ℕ) (p : Option Node) → parent_inside span p ≡ false → s ≤ lo → lo ≤ hi → hi ≤ e → below (suc n) p lo hi ≡ at lo hi ∷ []
   whole n lo hi p o a l b =
-      let v = inside_yes lo hi a b in
+      let v = inside_yes s e lo hi a b in
       let yes-piece : is_piece span (record { node = at lo hi; parent = p }) ≡ true = and_from _ _ v (ap not o) in
       let left = none_inside n lo (middle lo hi) (Some (at lo hi)) v a (omega arith) (omega arith) in
       let right = none_inside n (middle lo hi) hi (Some (at lo hi)) v (omega arith) (omega arith) b in
@@ -73,15 +69,15 @@ module _ (s e : ℕ) where
       both false = refl
 
   -- a node that is not inside: its halves
-  pub parts : (n lo hi : ℕ) (p : Option Node) → (lo < s) ⊎ (e < hi) → 2 ≤ hi - lo → below (suc n) p lo hi ≡ halves n lo hi
-  parts n lo hi p c two = skipped n lo hi p (and_left _ _ (inside_no lo hi c)) ∙ cond-true _ _ _ (le-leb 2 (hi - lo) two)
+  parts : (n lo hi : ℕ) (p : Option Node) → (lo < s) ⊎ (e < hi) → 2 ≤ hi - lo → below (suc n) p lo hi ≡ halves n lo hi
+  parts n lo hi p c two = skipped n lo hi p (and_left _ _ (inside_no s e lo hi c)) ∙ cond-true _ _ _ (le-leb 2 (hi - lo) two)
 
   -- one question that is not inside
-  pub leaf : (n lo hi : ℕ) (p : Option Node) → (lo < s) ⊎ (e < hi) → hi - lo < 2 → below (suc n) p lo hi ≡ []
-  leaf n lo hi p c one = skipped n lo hi p (and_left _ _ (inside_no lo hi c)) ∙ cond-false _ _ _ (lt-leb 2 (hi - lo) one)
+  leaf : (n lo hi : ℕ) (p : Option Node) → (lo < s) ⊎ (e < hi) → hi - lo < 2 → below (suc n) p lo hi ≡ []
+  leaf n lo hi p c one = skipped n lo hi p (and_left _ _ (inside_no s e lo hi c)) ∙ cond-false _ _ _ (lt-leb 2 (hi - lo) one)
 
   -- a node apart from the span
-  pub apart : (n lo hi : ℕ) (p : Option Node) → lo < hi → (e ≤ lo) ⊎ (hi ≤ s) → below n p lo hi ≡ []
+  apart : (n lo hi : ℕ) (p : Option Node) → lo < hi → (e ≤ lo) ⊎ (hi ≤ s) → below n p lo hi ≡ []
   apart zero lo hi p l c = refl
   apart (suc n) lo hi p l c =
       let no : (lo < s) ⊎ (e < hi) = ⊎_elim (λ (a : e ≤ lo). inr (omega arith)) (λ (b : hi ≤ s). inl (omega arith)) c in
@@ -92,3 +88,24 @@ module _ (s e : ℕ) where
       let right = apart n (middle lo hi) hi (Some (at lo hi)) (omega arith) (⊎_elim (λ (a : e ≤ lo). inl (omega arith)) (λ (b : hi ≤ s). inr b) c) in
       parts n lo hi p no two ∙ (λ j. left j ++ right j))
       (cases_lt (hi - lo) 2)
+
+  module _ (Q : ℕ → ℕ → ℕ → List Node → Type 0) (none : (m lo hi : ℕ) → lo < hi → (e ≤ lo) ⊎ (hi ≤ s) → Q m lo hi []) (one : (m lo hi : ℕ) → lo < hi → s ≤ lo → hi ≤ e → Q m lo hi (at lo hi ∷ [])) (both : (m lo hi : ℕ) → 2 ≤ hi - lo → (lo < s) ⊎ (e < hi) → (xs ys : List Node) → Q (m + 1) lo (middle lo hi) xs → Q (m + 2 * (middle lo hi - lo)) (middle lo hi) hi ys → Q m lo hi (xs ++ ys)) where
+    -- however the node is reached from a parent that is not inside, if the depth suffices
+    abbrev Held : ℕ → ℕ → ℕ → Type 0
+    Held m lo hi = (n : ℕ) (p : Option Node) → parent_inside span p ≡ false → hi - lo ≤ n → Q m lo hi (below n p lo hi)
+
+    held_inside : (m lo hi : ℕ) → lo < hi → s ≤ lo → hi ≤ e → Held m lo hi
+    held_inside m lo hi l a b zero p o d = absurd (omega arith)
+    held_inside m lo hi l a b (suc n) p o d = subst (Q m lo hi) (sym (whole n lo hi p o a (omega arith) b)) (one m lo hi l a b)
+
+    held_across : (m lo hi : ℕ) → 2 ≤ hi - lo → (lo < s) ⊎ (e < hi) → Held (m + 1) lo (middle lo hi) → Held (m + 2 * (middle lo hi - lo)) (middle lo hi) hi → Held m lo hi
+    held_across m lo hi two off left right zero p o d = absurd (omega arith)
+    held_across m lo hi two off left right (suc n) p o d =
+        let v : Option Node = Some (at lo hi) in
+        let w = inside_no s e lo hi off in
+        subst (Q m lo hi) (sym (parts n lo hi p off two)) (both m lo hi two off (below n v lo (middle lo hi)) (below n v (middle lo hi) hi) (left n v w (omega arith)) (right n v w (omega arith)))
+
+    pub by_pieces : (t : ℕ) → 0 < t → Q 0 0 t (pieces_of t (s, e))
+    by_pieces t some =
+        subst (Q 0 0 t) (sym (ap (λ l. map (λ (v : Placed). v.node) (filter (is_piece span) l)) (cond-true (ltb 0 t) (nodes_from t None 0 t) [] (lt-ltb 0 t some))))
+        (by_overlap Held s e (λ m lo hi l c n p o d. subst (Q m lo hi) (sym (apart n lo hi p l c)) (none m lo hi l c)) held_inside held_across 0 0 t some t None refl (omega arith))

@@ -1,151 +1,77 @@
--- The facts that the first records enter, with their spans: sums over them, and the table of their spans.
-use Rattle.std.proofs.Common.{◌≡◌, ℕ, zero, suc, ◌+◌, ◌*◌, ◌<◌, ◌≤◌, cond, ◌≢◌, List, [], ◌∷◌, length, get_or, take, drop, set, Some, None, sum_by, Option, sym, refl, ap, ◌∙◌, subst, ⊎_elim, add-one, arith}
-use Rattle.std.proofs.lemmas.List.{drop_more, drop_all, get_or-set_same, get_or-set_other, length-set}
+-- The facts of a book with their spans: how many there are, and what a pass over the records gives of them.
+use Rattle.std.proofs.Common.{◌≡◌, ℕ, zero, suc, ◌+◌, ◌<◌, ◌≤◌, min, cond, List, [], ◌∷◌, map, length, get_or, take, drop, is_some, sum_by, Some, sym, refl, ap, ◌∙◌, subst, ⊎_elim, add-one, arith}
+use Rattle.std.specs.List.{AllByRecursion, cons_option, enumerate_from, filter_map, zip}
+use Rattle.std.proofs.lemmas.List.{drop_all, drop-drop, get_or_default, get_or-map, length-map}
+use Rattle.std.proofs.lemmas.Slice.Zip.{get_or-zip, length-zip}
+use Rattle.std.proofs.lemmas.Simd.{map-map}
+use Rattle.std.proofs.lemmas.List.FromFn.{length-enumerate_from, get_or-enumerate_from}
 use Rattle.std.proofs.lemmas.List.Sums.{sum_by-cons, sum_by-take-le, sum_by-take-drop, sum_by-drop_more}
 use Rattle.std.proofs.lemmas.Bool.{cases_lt, cond_both}
 use Rattle.undoable.specs.declared.facts.Fact.{Fact}
+use Rattle.undoable.specs.Kinds.{same}
 use Rattle.book.specs.declared.records.Record.{Record}
 use Rattle.book.specs.declared.records.Record.TheVariants as is
-use Rattle.book.specs.declared.state.Book.{Book}
 use Rattle.book.specs.Alive.{Entry, alive, equal_to}
-use Rattle.book.specs.Records.{is_fact, is_question, fact_count, question_count}
+use Rattle.book.specs.Records.{fact_in, is_fact, is_question, fact_count, question_count}
 use Rattle.book.specs.Spans.{until, span, fact_within, span_if, span_at, entries_from}
-use Rattle.book.specs.View.{records_of}
-use Rattle.book.specs.Words.{reads}
 use Rattle.book.proofs.Asked.{questions-cons}
-use Rattle.undoable.specs.Kinds.{same}
-use Rattle.solver.specs.Laid.{Spanned, with_span, spanned_in, Tabled, span_words, span_piece_count, is_there}
-use Rattle.solver.specs.Solving.{piece_total}
-use Rattle.solver.specs.Tree.{pieces_of}
+use Rattle.solver.specs.Laid.{Spanned, spanned, Tabled}
+use Rattle.solver.proofs.Passing.{kept}
 
--- a book's records are at most 4,096
-short_reads : (ws : List ℕ) → 2 * length (reads ws) ≤ length ws
-short_reads [] = omega arith
-short_reads (h ∷ []) = omega arith
-short_reads (h ∷ (s ∷ ws)) = omega (arith, short_reads ws)
+-- the records behind the first that is left
+pub drop_next : (n : ℕ) (rs : List Record) {r : Record} {l : List Record} → drop n rs ≡ r ∷ l → drop (n + 1) rs ≡ l
+drop_next n rs e = sym (drop-drop 1 n rs) ∙ ap (drop 1) e
 
-short_take : (n : ℕ) (ws : List ℕ) → length (take n ws) ≤ n
-short_take zero ws = omega arith
-short_take (suc n) [] = omega arith
-short_take (suc n) (w ∷ ws) = omega (arith, short_take n ws)
+-- the records that enter facts, and their spans
+facts_kept : (n : ℕ) (rs : List Record) → map (λ p. p.0) (kept (λ r. is_some (fact_in r)) n rs) ≡ map (λ x. x.number) (entries_from n rs)
+facts_kept n [] = refl
+facts_kept n (is.Fact f ∷ rs) = ap (λ l. n ∷ l) (facts_kept (n + 1) rs ∙ ap (λ m. map (λ x. x.number) (entries_from m rs)) (add-one n))
+facts_kept n (is.Withdrawal f ∷ rs) = facts_kept (n + 1) rs ∙ ap (λ m. map (λ x. x.number) (entries_from m rs)) (add-one n)
+facts_kept n (is.Question q ∷ rs) = facts_kept (n + 1) rs ∙ ap (λ m. map (λ x. x.number) (entries_from m rs)) (add-one n)
 
-pub few_records : (b : Book) → length (records_of b) ≤ 4096
-few_records b = omega (arith, short_reads (take (2 * b.records) b.words), short_take (2 * b.records) b.words, b.number)
+spans_kept : (rs : List Record) (n : ℕ) (l : List Record) → drop n rs ≡ l → filter_map (λ p. span_at rs p.0) (enumerate_from n l) ≡ map (λ x. span rs x.number x.fact) (entries_from n l)
+spans_kept rs n [] e = refl
+spans_kept rs n (is.Fact f ∷ l) e =
+    ap (λ y. cons_option (span_if rs n (fact_within y)) (filter_map (λ p. span_at rs p.0) (enumerate_from (n + 1) l))) e
+    ∙ ap (λ xs. span rs n f ∷ xs) (spans_kept rs (n + 1) l (drop_next n rs e) ∙ ap (λ m. map (λ x. span rs x.number x.fact) (entries_from m l)) (add-one n))
+spans_kept rs n (is.Withdrawal f ∷ l) e =
+    ap (λ y. cons_option (span_if rs n (fact_within y)) (filter_map (λ p. span_at rs p.0) (enumerate_from (n + 1) l))) e ∙ spans_kept rs (n + 1) l (drop_next n rs e) ∙ ap (λ m. map (λ x. span rs x.number x.fact) (entries_from m l)) (add-one n)
+spans_kept rs n (is.Question q ∷ l) e =
+    ap (λ y. cons_option (span_if rs n (fact_within y)) (filter_map (λ p. span_at rs p.0) (enumerate_from (n + 1) l))) e ∙ spans_kept rs (n + 1) l (drop_next n rs e) ∙ ap (λ m. map (λ x. span rs x.number x.fact) (entries_from m l)) (add-one n)
 
--- what is read beyond a list
-abbrev pub any : Record
-any = is.Question (record { first = 0; second = 0 })
+pub numbers_passed : (rs : List Record) → map (λ p. p.0) (kept (λ r. is_some (fact_in r)) 0 rs) ≡ map (λ x. x.number) (spanned rs)
+numbers_passed rs = facts_kept 0 rs ∙ sym (map-map (λ (x : Spanned). x.number) (λ (x : Entry). record { number = x.number; span = span rs x.number x.fact }) (entries_from 0 rs))
 
--- sums over the facts of the first records, whatever is summed
-module _ (rs : List Record) (w : Spanned → ℕ) where
-  abbrev pub weigh : ℕ → Option (ℕ × ℕ) → ℕ
-  weigh n None = 0
-  weigh n (Some x) = w (record { number = n; span = x })
+pub spans_passed : (rs : List Record) → filter_map (λ p. span_at rs p.0) (enumerate_from 0 rs) ≡ map (λ x. x.span) (spanned rs)
+spans_passed rs = spans_kept rs 0 rs refl ∙ sym (map-map (λ (x : Spanned). x.span) (λ (x : Entry). record { number = x.number; span = span rs x.number x.fact }) (entries_from 0 rs))
 
-  abbrev total : ℕ → ℕ
-  total n = sum_by w (spanned_in rs n)
+-- each fact stands in the record of its number
+entries_behind : (rs : List Record) (n : ℕ) (l : List Record) → AllByRecursion (λ (x : Entry). fact_within (drop x.number rs) ≡ Some x.fact) (entries_from (n + 1) l) → AllByRecursion (λ (x : Entry). fact_within (drop x.number rs) ≡ Some x.fact) (entries_from (suc n) l)
+entries_behind rs n l a = subst (λ m. AllByRecursion (λ (x : Entry). fact_within (drop x.number rs) ≡ Some x.fact) (entries_from m l)) (add-one n) a
 
-  with_more : (n : ℕ) (o : Option (ℕ × ℕ)) (xs : List Spanned) → sum_by w (with_span n o xs) ≡ weigh n o + sum_by w xs
-  with_more n None xs = omega arith
-  with_more n (Some x) xs = sum_by-cons w (record { number = n; span = x }) xs
+pub entries_stand : (rs : List Record) (n : ℕ) (l : List Record) → drop n rs ≡ l → AllByRecursion (λ (x : Entry). fact_within (drop x.number rs) ≡ Some x.fact) (entries_from n l)
+entries_stand rs n [] e = tt
+entries_stand rs n (is.Fact f ∷ l) e = (ap fact_within e, entries_behind rs n l (entries_stand rs (n + 1) l (drop_next n rs e)))
+entries_stand rs n (is.Withdrawal f ∷ l) e = entries_behind rs n l (entries_stand rs (n + 1) l (drop_next n rs e))
+entries_stand rs n (is.Question q ∷ l) e = entries_behind rs n l (entries_stand rs (n + 1) l (drop_next n rs e))
 
-  pub sum_more : (n : ℕ) → total (n + 1) ≡ weigh n (span_at rs n) + total n
-  sum_more n = ap total (add-one n) ∙ with_more n (span_at rs n) (spanned_in rs n)
-
-  pub sum_front : (i n : ℕ) → i ≤ n → total i ≤ total n
-  sum_front i zero h = let e : i ≡ 0 = omega arith in omega (arith, ap total e)
-  sum_front i (suc n) h =
-      ⊎_elim
-      (λ (l : i < suc n). omega (arith, sum_front i n (omega arith), with_more n (span_at rs n) (spanned_in rs n)))
-      (λ (l : suc n ≤ i). let e : i ≡ suc n = omega arith in omega (arith, ap total e))
-      (cases_lt i (suc n))
-
-  -- the same sum over the facts in the order of entry
-  abbrev entered : Entry → ℕ
-  entered x = w (record { number = x.number; span = span rs x.number x.fact })
-
-  abbrev ahead : ℕ → List Record → ℕ
-  ahead n xs = sum_by entered (entries_from n xs)
-
-  ahead_more : (n : ℕ) (r : Record) (xs : List Record) → ahead n (r ∷ xs) ≡ weigh n (span_if rs n (fact_within (r ∷ xs))) + ahead (suc n) xs
-  ahead_more n (is.Fact f) xs = sum_by-cons entered (record { number = n; fact = f }) (entries_from (suc n) xs)
-  ahead_more n (is.Withdrawal f) xs = omega arith
-  ahead_more n (is.Question q) xs = omega arith
-
-  passed : (n : ℕ) → n ≤ length rs → total n + ahead n (drop n rs) ≡ ahead 0 rs
-  passed zero h = omega arith
-  passed (suc n) h =
-      let e : drop n rs ≡ get_or rs n any ∷ drop (suc n) rs = drop_more rs n any (omega arith) ∙ ap (λ k. get_or rs n any ∷ drop k rs) (add-one n) in
-      omega (
-        arith,
-        passed n (omega arith),
-        with_more n (span_at rs n) (spanned_in rs n),
-        ap (ahead n) e,
-        ahead_more n (get_or rs n any) (drop (suc n) rs),
-        ap (λ l. weigh n (span_if rs n (fact_within l))) e,
-      )
-
-  pub sum_all : total (length rs) ≡ ahead 0 rs
-  sum_all =
-      let e : drop (length rs) rs ≡ [] = drop_all (length rs) rs (omega arith) in
-      omega (arith, passed (length rs) (omega arith), ap (ahead (length rs)) e)
-
--- how many facts there are
-length_sum : {X : Type 0} (xs : List X) → length xs ≡ sum_by (λ _. 1) xs
-length_sum [] = refl
-length_sum (x ∷ xs) = omega (arith, length_sum xs, sum_by-cons (λ _. 1) x xs)
-
+-- how many there are
 pub entered_count : (n : ℕ) (rs : List Record) → length (entries_from n rs) ≡ fact_count rs
 entered_count n [] = refl
 entered_count n (is.Fact f ∷ rs) = omega (arith, entered_count (suc n) rs, sum_by-cons (λ r. cond (is_fact r) 1 0) (is.Fact f) rs)
 entered_count n (is.Withdrawal f ∷ rs) = omega (arith, entered_count (suc n) rs, sum_by-cons (λ r. cond (is_fact r) 1 0) (is.Withdrawal f) rs)
 entered_count n (is.Question q ∷ rs) = omega (arith, entered_count (suc n) rs, sum_by-cons (λ r. cond (is_fact r) 1 0) (is.Question q) rs)
 
-pub spanned_count : (rs : List Record) → length (spanned_in rs (length rs)) ≡ fact_count rs
-spanned_count rs = length_sum (spanned_in rs (length rs)) ∙ sum_all rs (λ _. 1) ∙ sym (length_sum (entries_from 0 rs)) ∙ entered_count 0 rs
+pub spanned_count : (rs : List Record) → length (spanned rs) ≡ fact_count rs
+spanned_count rs = length-map (entries_from 0 rs) (λ (x : Entry). record { number = x.number; span = span rs x.number x.fact }) ∙ entered_count 0 rs
 
-pub spanned_front : (rs : List Record) (i : ℕ) → i ≤ length rs → length (spanned_in rs i) ≤ fact_count rs
-spanned_front rs i h = omega (arith, length_sum (spanned_in rs i), length_sum (spanned_in rs (length rs)), sum_front rs (λ _. 1) i (length rs) h, spanned_count rs)
-
-with_count : (n : ℕ) (o : Option (ℕ × ℕ)) (xs : List Spanned) → length (with_span n o xs) ≡ length xs + cond (is_there o) 1 0
-with_count n None xs = omega arith
-with_count n (Some x) xs = omega arith
-
-pub spanned_more : (rs : List Record) (n : ℕ) → length (spanned_in rs (n + 1)) ≡ length (spanned_in rs n) + cond (is_there (span_at rs n)) 1 0
-spanned_more rs n = ap (λ k. length (spanned_in rs k)) (add-one n) ∙ with_count n (span_at rs n) (spanned_in rs n)
-
--- the table of spans
-tabled_set : (ws : List ℕ) (i v : ℕ) (xs : List Spanned) → 2 * length xs ≤ i → Tabled ws xs → Tabled (set ws i v) xs
-tabled_set ws i v [] h t = tt
-tabled_set ws i v (x ∷ xs) h t =
-    let a : 2 * length xs ≢ i = omega arith in
-    let b : 2 * length xs + 1 ≢ i = omega arith in
-    (get_or-set_other ws i (2 * length xs) v 0 a ∙ t.0, get_or-set_other ws i (2 * length xs + 1) v 0 b ∙ t.1, tabled_set ws i v xs (omega arith) t.2)
-
-tabled_with : (n : ℕ) (o : Option (ℕ × ℕ)) (ws : List ℕ) (xs : List Spanned) → 2 * length xs + 2 * cond (is_there o) 1 0 ≤ length ws → Tabled ws xs → Tabled (span_words ws (length xs) o) (with_span n o xs)
-tabled_with n None ws xs h t = t
-tabled_with n (Some x) ws xs h t =
-    let k = 2 * length xs in
-    let a : 2 * length xs ≢ 2 * length xs + 1 = omega arith in (
-      get_or-set_other (set ws k x.0) (k + 1) k x.1 0 a ∙ get_or-set_same ws k x.0 0 (omega arith),
-      get_or-set_same (set ws k x.0) (k + 1) x.1 0 (omega (arith, length-set ws k x.0)),
-      tabled_set (set ws k x.0) (k + 1) x.1 xs (omega arith) (tabled_set ws k x.0 xs (omega arith) t),
-    )
-
-pub tabled_more : (rs : List Record) (n : ℕ) (ws : List ℕ) → 2 * length (spanned_in rs n) + 2 * cond (is_there (span_at rs n)) 1 0 ≤ length ws → Tabled ws (spanned_in rs n) → Tabled (span_words ws (length (spanned_in rs n)) (span_at rs n)) (spanned_in rs (n + 1))
-tabled_more rs n ws h t = subst (λ k. Tabled (span_words ws (length (spanned_in rs n)) (span_at rs n)) (spanned_in rs k)) (sym (add-one n)) (tabled_with n (span_at rs n) ws (spanned_in rs n) h t)
-
-tabled_less : (n : ℕ) (o : Option (ℕ × ℕ)) (ws : List ℕ) (xs : List Spanned) → Tabled ws (with_span n o xs) → Tabled ws xs
-tabled_less n None ws xs t = t
-tabled_less n (Some x) ws xs t = t.2
-
-pub tabled_front : (rs : List Record) (ws : List ℕ) (i n : ℕ) → i ≤ n → Tabled ws (spanned_in rs n) → Tabled ws (spanned_in rs i)
-tabled_front rs ws i zero h t = let e : 0 ≡ i = omega arith in subst (λ k. Tabled ws (spanned_in rs k)) e t
-tabled_front rs ws i (suc n) h t =
-    ⊎_elim
-    (λ (l : i < suc n). tabled_front rs ws i n (omega arith) (tabled_less n (span_at rs n) ws (spanned_in rs n) t))
-    (λ (l : suc n ≤ i). let e : suc n ≡ i = omega arith in subst (λ k. Tabled ws (spanned_in rs k)) e t)
-    (cases_lt i (suc n))
+-- a sum over them
+pub sum_spanned : (rs : List Record) (w : Spanned → ℕ) → sum_by w (spanned rs) ≡ sum_by (λ x. w (record { number = x.number; span = span rs x.number x.fact })) (entries_from 0 rs)
+sum_spanned rs w = sum_map (λ (x : Entry). record { number = x.number; span = span rs x.number x.fact }) (entries_from 0 rs)
+  where
+    sum_map : (g : Entry → Spanned) (xs : List Entry) → sum_by w (map g xs) ≡ sum_by (λ x. w (g x)) xs
+    sum_map g [] = refl
+    sum_map g (x ∷ xs) = omega (arith, sum_map g xs, sum_by-cons w (g x) (map g xs), sum_by-cons (λ y. w (g y)) x xs)
 
 -- a span ends with the last question at the latest
 until_most : (f : Fact) (k : ℕ) (rs : List Record) → until f k rs ≤ question_count rs
@@ -161,6 +87,7 @@ until_most f (suc k) (is.Withdrawal g ∷ rs) =
 
 drop_fewer : (n : ℕ) (rs : List Record) → question_count (take n rs) + question_count (drop (suc n) rs) ≤ question_count rs
 drop_fewer n rs =
+    let any = is.Question (record { first = 0; second = 0 }) in
     ⊎_elim
     (λ (l : n < length rs). omega (arith, sum_by-take-drop (λ r. cond (is_question r) 1 0) rs n, sum_by-drop_more (λ r. cond (is_question r) 1 0) rs n any l, ap (λ k. question_count (drop k rs)) (add-one n)))
     (λ (l : length rs ≤ n). omega (arith, sum_by-take-le (λ r. cond (is_question r) 1 0) rs n, ap question_count (drop_all (suc n) rs (omega arith))))
@@ -171,29 +98,52 @@ span_within rs n f =
     let u = until_most f (equal_to f (alive (take n rs))) (drop (suc n) rs) in
     (omega (arith, drop_fewer n rs), omega (arith, drop_fewer n rs, u))
 
-spans_within : (rs : List Record) (n : ℕ) (o : Option Fact) (s e : ℕ) → span_if rs n o ≡ Some (s, e) → (s ≤ question_count rs) × (e ≤ question_count rs)
-spans_within rs n None s e h = let z : ◌≡◌ {A = ℕ} 0 1 = cc in absurd (omega arith)
-spans_within rs n (Some f) s e h =
-    let w = span_within rs n f in
-    let a : span rs n f ≡ (s, e) = cc in
-    (omega (arith, w.0, ap (λ x. x.0) a), omega (arith, w.1, ap (λ x. x.1) a))
+-- a fact's number is that of one of the records
+number_within : (n : ℕ) (rs : List Record) (k : ℕ) (d : Entry) → k < length (entries_from n rs) → (get_or (entries_from n rs) k d).number < n + length rs
+number_within n [] k d h = absurd (omega arith)
+number_within n (is.Fact f ∷ rs) zero d h = omega arith
+number_within n (is.Fact f ∷ rs) (suc k) d h = omega (arith, number_within (suc n) rs k d (omega arith))
+number_within n (is.Withdrawal f ∷ rs) k d h = omega (arith, number_within (suc n) rs k d h)
+number_within n (is.Question q ∷ rs) k d h = omega (arith, number_within (suc n) rs k d h)
 
-pub span_most : (rs : List Record) (n s e : ℕ) → span_at rs n ≡ Some (s, e) → (s ≤ question_count rs) × (e ≤ question_count rs)
-span_most rs n s e h = spans_within rs n (fact_within (drop n rs)) s e h
+pub spanned_within : (rs : List Record) (k : ℕ) (d : Spanned) → k < length (spanned rs) → ((get_or (spanned rs) k d).number < length rs) × ((get_or (spanned rs) k d).span.0 ≤ question_count rs) × ((get_or (spanned rs) k d).span.1 ≤ question_count rs)
+spanned_within rs k d h =
+    let f : Entry → Spanned = λ x. record { number = x.number; span = span rs x.number x.fact } in
+    let none : Entry = record { number = 0; fact = record { first = 0; second = 0 } } in
+    let lt : k < length (entries_from 0 rs) = omega (arith, h, length-map (entries_from 0 rs) f) in
+    let x : Entry = get_or (entries_from 0 rs) k none in
+    let w = span_within rs x.number x.fact in
+    let e = get_or-map f (entries_from 0 rs) k none d lt in
+    (omega (arith, number_within 0 rs k none lt, ap (λ y. y.number) e), omega (arith, w.0, ap (λ y. y.span.0) e), omega (arith, w.1, ap (λ y. y.span.1) e))
 
--- the number of pieces of the facts of the first records
-abbrev pub pieces_within : List Record → ℕ → ℕ
-pieces_within rs n = sum_by (λ x. length (pieces_of (question_count rs) x.span)) (spanned_in rs n)
+-- one turn of a loop over the spans, counted
+pub span_turn : (rs : List Record) (n i s e : ℕ) (d : Spanned) → (n < length (enumerate_from 0 (filter_map (λ p. span_at rs p.0) (enumerate_from 0 rs)))) × ((i, (s, e)) ≡ get_or (enumerate_from 0 (filter_map (λ p. span_at rs p.0) (enumerate_from 0 rs))) n (i, (s, e))) → (i ≡ n) × (n < length (spanned rs)) × ((s, e) ≡ (get_or (spanned rs) n d).span)
+span_turn rs n i s e d t =
+    let xs = filter_map (λ p. span_at rs p.0) (enumerate_from 0 rs) in
+    let m = length-enumerate_from 0 xs in
+    let lt : n < length (filter_map (λ p. span_at rs p.0) (enumerate_from 0 rs)) = omega (arith, t.0, m) in
+    let here = t.1 ∙ get_or-enumerate_from 0 xs n (i, (s, e)) lt in
+    let within : n < length (spanned rs) = omega (arith, lt, ap length (spans_passed rs), length-map (spanned rs) (λ (x : Spanned). x.span)) in
+    (omega (arith, ap (λ p. p.0) here), within, ap (λ p. p.1) here ∙ ap (λ l. get_or l n (s, e)) (spans_passed rs) ∙ get_or-map (λ (x : Spanned). x.span) (spanned rs) n d (s, e) within)
 
-pieces_with : (rs : List Record) (n t : ℕ) (o : Option (ℕ × ℕ)) → t ≡ question_count rs → span_piece_count t o ≡ weigh rs (λ x. length (pieces_of (question_count rs) x.span)) n o
-pieces_with rs n t None e = refl
-pieces_with rs n t (Some x) e = ap (λ k. length (pieces_of k x)) e
+-- one turn of a loop over the facts and their spans in a table
+pub fact_turn : (rs : List Record) (ws : List (List ℕ)) → Tabled ws (spanned rs) → (n number : ℕ) (item : Record) (w : List ℕ) (d : Spanned) → (n < length (zip (kept (λ r. is_some (fact_in r)) 0 rs) ws)) × (((number, item), w) ≡ get_or (zip (kept (λ r. is_some (fact_in r)) 0 rs) ws) n ((number, item), w)) → (n < length (spanned rs)) × (number ≡ (get_or (spanned rs) n d).number) × (w ≡ (get_or (spanned rs) n d).span.0 ∷ ((get_or (spanned rs) n d).span.1 ∷ []))
+fact_turn rs ws tabled n number item w d t =
+    let ks = kept (λ r. is_some (fact_in r)) 0 rs in
+    let xs = spanned rs in
+    let pair : Spanned → List ℕ = λ x. x.span.0 ∷ (x.span.1 ∷ []) in
+    let m = length-zip ks ws in
+    let a : n < length (kept (λ r. is_some (fact_in r)) 0 rs) = omega (arith, t.0, m) in
+    let b : n < length ws = omega (arith, t.0, m) in
+    let e = t.1 ∙ get_or-zip ks ws n ((number, item), w) a b in
+    let within : n < length (spanned rs) = omega (arith, a, ap length (numbers_passed rs), length-map xs (λ (x : Spanned). x.number), length-map ks (λ (p : ℕ × Record). p.0)) in (
+      within,
+      ap (λ p. p.0.0) e ∙ sym (get_or-map (λ (p : ℕ × Record). p.0) ks n (number, item) 0 a) ∙ ap (λ l. get_or l n 0) (numbers_passed rs) ∙ get_or-map (λ (x : Spanned). x.number) xs n d 0 within,
+      ap (λ p. p.1) e ∙ get_or_default ws n w [] b ∙ tabled n within ∙ get_or-map pair xs n d [] within,
+    )
 
-pub pieces_more : (rs : List Record) (n t : ℕ) → t ≡ question_count rs → pieces_within rs (n + 1) ≡ span_piece_count t (span_at rs n) + pieces_within rs n
-pieces_more rs n t e = sum_more rs (λ x. length (pieces_of (question_count rs) x.span)) n ∙ ap (λ k. k + pieces_within rs n) (sym (pieces_with rs n t (span_at rs n) e))
-
-pub pieces_all : (rs : List Record) → pieces_within rs (length rs) ≡ piece_total rs
-pieces_all rs = sum_all rs (λ x. length (pieces_of (question_count rs) x.span))
-
-pub pieces_front : (rs : List Record) (i : ℕ) → i ≤ length rs → pieces_within rs i ≤ piece_total rs
-pieces_front rs i h = omega (arith, sum_front rs (λ x. length (pieces_of (question_count rs) x.span)) i (length rs) h, pieces_all rs)
+pub facts_zipped : (rs : List Record) (ws : List (List ℕ)) → length (zip (kept (λ r. is_some (fact_in r)) 0 rs) ws) ≡ min (length (spanned rs)) (length ws)
+facts_zipped rs ws =
+    let ks = kept (λ r. is_some (fact_in r)) 0 rs in
+    let e : length (kept (λ r. is_some (fact_in r)) 0 rs) ≡ length (spanned rs) = sym (length-map ks (λ (p : ℕ × Record). p.0)) ∙ ap length (numbers_passed rs) ∙ length-map (spanned rs) (λ (x : Spanned). x.number) in
+    length-zip ks ws ∙ ap (λ k. min k (length ws)) e

@@ -1,8 +1,10 @@
 -- The stack at a question holds, equally often, the facts alive there and those that it held before.
-use Rattle.std.proofs.Common.{◌≡◌, ℕ, zero, suc, ◌+◌, ◌-◌, ◌<◌, Bool, true, false, cond, ◌&&◌, ltb, leb, List, [], ◌∷◌, ◌++◌, map, length, drop, sum_by, filter, sym, refl, ap, ◌∙◌, ⊎_elim, arith}
+use Rattle.std.proofs.Common.{◌≡◌, ℕ, zero, suc, ◌+◌, ◌-◌, ◌*◌, ◌<◌, ◌≤◌, Bool, true, false, cond, ◌&&◌, ltb, leb, ◌⊎◌, List, [], ◌∷◌, ◌++◌, map, length, drop, replicate, sum_by, filter, Some, sym, refl, ap, ◌∙◌, inl, inr, ⊎_elim, arith}
 use Rattle.std.specs.List.{AllByRecursion}
+use Rattle.std.proofs.ByRecursion.{All-weaker}
+use Rattle.std.proofs.lemmas.List.{map-append}
 use Rattle.std.proofs.lemmas.List.Sums.{sum_by-cons, sum_by-append}
-use Rattle.std.proofs.lemmas.Bool.{cases_Bool, cond-true, cond-false}
+use Rattle.std.proofs.lemmas.Bool.{cases_Bool, cases_lt, cond-true, cond-false, le-leb, lt-leb, lt-ltb, le-ltb, and_from, and_left, and_right}
 use Rattle.undoable.specs.declared.facts.Fact.{Fact}
 use Rattle.undoable.specs.Kinds.{same, times, EquallyOften}
 use Rattle.undoable.proofs.Orders.{Rearranged, none, keep, swap, then, rearranged}
@@ -10,14 +12,18 @@ use Rattle.book.specs.declared.records.Record.{Record}
 use Rattle.book.specs.declared.records.Record.TheVariants as is
 use Rattle.book.specs.Alive.{Entry}
 use Rattle.book.specs.Records.{question_count}
-use Rattle.book.specs.Spans.{span, holds, entries_from}
+use Rattle.book.specs.Spans.{span, fact_within, holds, entries_from}
 use Rattle.book.proofs.Surviving.{alive_by_spans}
-use Rattle.solver.specs.Laid.{laid, spanned_in}
+use Rattle.solver.specs.Folds.{onto, stack_to, sum_nodes}
+use Rattle.solver.specs.Laid.{Spanned, laid, spanned}
 use Rattle.solver.specs.Solving.{alive_at}
-use Rattle.solver.specs.Walks.{numbered_fact, first_fact, stack_below, stack_to}
-use Rattle.solver.proofs.Entered.{sum_all}
-use Rattle.solver.proofs.Laying.{laid_path}
-use Rattle.solver.proofs.Paths.{path_same, times_stack}
+use Rattle.solver.specs.Tree.{middle}
+use Rattle.solver.specs.Walks.{numbered_fact, first_fact}
+use Rattle.solver.proofs.Covering.{pieces_partition}
+use Rattle.solver.proofs.Descending.{by_halves}
+use Rattle.solver.proofs.Entered.{entries_stand, sum_spanned}
+use Rattle.solver.proofs.Levels.{stack_leaf, stack_left, stack_right}
+use Rattle.solver.proofs.Sums.{sum_leaf, sum_node, sum_off, sum_laid}
 
 -- rearranged lists have one length
 same_length : {xs ys : List Fact} → Rearranged xs ys → length xs ≡ length ys
@@ -29,17 +35,12 @@ same_length (then p q) = same_length p ∙ same_length q
 pub often_length : (xs ys : List Fact) → EquallyOften xs ys → length xs ≡ length ys
 often_length xs ys e = same_length (rearranged xs ys e)
 
-tail_drop : (n : ℕ) (xs : List Record) (y : Record) (ys : List Record) → drop n xs ≡ y ∷ ys → drop (suc n) xs ≡ ys
-tail_drop zero xs y ys e = ap (drop 1) e
-tail_drop (suc n) [] y ys e = let z : ◌≡◌ {A = ℕ} 0 1 = cc in absurd (omega arith)
-tail_drop (suc n) (x ∷ xs) y ys e = tail_drop n xs y ys e
-
--- the facts of a book under their record numbers
-entries_facts : (rs : List Record) (n : ℕ) (l : List Record) → drop n rs ≡ l → AllByRecursion (λ (x : Entry). numbered_fact rs x.number ≡ x.fact) (entries_from n l)
-entries_facts rs n [] e = tt
-entries_facts rs n (is.Fact f ∷ l) e = (ap first_fact e, entries_facts rs (suc n) l (tail_drop n rs (is.Fact f) l e))
-entries_facts rs n (is.Withdrawal f ∷ l) e = entries_facts rs (suc n) l (tail_drop n rs (is.Withdrawal f) l e)
-entries_facts rs n (is.Question q ∷ l) e = entries_facts rs (suc n) l (tail_drop n rs (is.Question q) l e)
+-- the fact of a record that enters it
+numbered : (l : List Record) (f : Fact) → fact_within l ≡ Some f → first_fact l ≡ f
+numbered [] f e = cc
+numbered (is.Fact g ∷ l) f e = cc
+numbered (is.Withdrawal g ∷ l) f e = cc
+numbered (is.Question q ∷ l) f e = cc
 
 module _ (rs : List Record) (q : ℕ) (f : Fact) where
   abbrev held : Entry → Bool
@@ -76,15 +77,75 @@ module _ (rs : List Record) (q : ℕ) (f : Fact) where
       (cases_Bool (held x))
 
   alive_times : q < question_count rs → sum_by counted (entries_from 0 rs) ≡ times f (alive_at rs q)
-  alive_times h = kept_times (entries_from 0 rs) (entries_facts rs 0 rs refl) ∙ ap (λ (l : List Entry). times f (map (λ y. y.fact) l)) (sym (alive_by_spans rs q h))
+  alive_times h = kept_times (entries_from 0 rs) (All-weaker _ _ (λ x e. numbered (drop x.number rs) x.fact e) (entries_from 0 rs) (entries_stand rs 0 rs refl)) ∙ ap (λ (l : List Entry). times f (map (λ y. y.fact) l)) (sym (alive_by_spans rs q h))
 
-pub living : (rs : List Record) (q : ℕ) → q < question_count rs → (g : ℕ → List Fact) → ((m : ℕ) → g m ≡ map (numbered_fact rs) (laid (question_count rs) (spanned_in rs (length rs)) m)) → (st : List Fact) → EquallyOften (stack_to g 0 0 (question_count rs) q st) (alive_at rs q ++ st)
+-- how often the stack at a question holds a fact: as often as the nodes that cover the question have it, and the stack below
+times-onto : (f : Fact) (fs st : List Fact) → times f (onto fs st) ≡ times f fs + times f st
+times-onto f [] st = omega arith
+times-onto f (x ∷ fs) st = omega (arith, times-onto f fs (x ∷ st), sum_by-cons (λ y. cond (same f y) 1 0) x st, sum_by-cons (λ y. cond (same f y) 1 0) x fs)
+
+module _ (f : Fact) (g : ℕ → List Fact) (q : ℕ) where
+  abbrev covered : ℕ → ℕ → Bool
+  covered lo hi = leb lo q && ltb q hi
+
+  abbrev own : ℕ → ℕ
+  own m = times f (g m)
+
+  here : (m lo hi : ℕ) → lo ≤ q → q < hi → cond (covered lo hi) (own m) 0 ≡ own m
+  here m lo hi a b = cond-true _ _ _ (and_from _ _ (le-leb lo q a) (lt-ltb q hi b))
+
+  off : (m lo hi : ℕ) → lo < hi → (q < lo) ⊎ (hi ≤ q) → sum_nodes covered own m lo hi ≡ 0
+  off =
+      sum_off covered own (λ lo hi. (q < lo) ⊎ (hi ≤ q))
+      (λ lo hi c. ⊎_elim (λ a. and_left _ _ (lt-leb lo q a)) (λ b. and_right _ _ (le-ltb q hi b)) c)
+      (λ lo hi two c. (⊎_elim (λ (a : q < lo). inl a) (λ (b : hi ≤ q). inr (omega arith)) c, ⊎_elim (λ (a : q < lo). inl (omega arith)) (λ (b : hi ≤ q). inr b) c))
+
+  times_stack : (m lo hi : ℕ) → lo < hi → (st : List Fact) → lo ≤ q → q < hi → times f (stack_to g m lo hi q st) ≡ sum_nodes covered own m lo hi + times f st
+  times_stack =
+      by_halves (λ m lo hi. (st : List Fact) → lo ≤ q → q < hi → times f (stack_to g m lo hi q st) ≡ sum_nodes covered own m lo hi + times f st)
+      (λ m lo hi l one st a b. omega (arith, ap (times f) (stack_leaf g q m lo hi l one st), times-onto f (g m) st, sum_leaf covered own m lo hi l one, here m lo hi a b))
+      (λ m lo hi two left right st a b.
+      let up = onto (g m) st in
+      let mid = middle lo hi in
+      let all = sum_node covered own m lo hi two in
+      ⊎_elim
+      (λ (h : q < middle lo hi).
+      omega (arith, ap (times f) (stack_left g q m lo hi two st h), left up a h, times-onto f (g m) st, all, here m lo hi a b, off (m + 2 * (middle lo hi - lo)) mid hi (omega arith) (inl h)))
+      (λ (h : middle lo hi ≤ q).
+      omega (arith, ap (times f) (stack_right g q m lo hi two st h), right up h b, times-onto f (g m) st, all, here m lo hi a b, off (m + 1) lo mid (omega arith) (inr h)))
+      (cases_lt q (middle lo hi)))
+
+times_copies : (F : ℕ → Fact) (f : Fact) (n i : ℕ) → times f (map F (replicate n i)) ≡ cond (same f (F i)) n 0
+times_copies F f zero i = nothing (same f (F i))
+  where
+    nothing : (b : Bool) → 0 ≡ cond {A = ℕ} b 0 0
+    nothing true = refl
+    nothing false = refl
+times_copies F f (suc n) i =
+    sum_by-cons (λ y. cond (same f y) 1 0) (F i) (map F (replicate n i)) ∙ ap (λ k. cond (same f (F i)) 1 0 + k) (times_copies F f n i) ∙ one (same f (F i))
+  where
+    one : (b : Bool) → cond {A = ℕ} b 1 0 + cond b n 0 ≡ cond b (suc n) 0
+    one true = omega arith
+    one false = refl
+
+times_both : (F : ℕ → Fact) (f : Fact) (xs ys : List ℕ) → times f (map F (xs ++ ys)) ≡ times f (map F xs) + times f (map F ys)
+times_both F f xs ys = ap (times f) (map-append F xs ys) ∙ sum_by-append (λ y. cond (same f y) 1 0) (map F xs) (map F ys)
+
+-- what is laid on the nodes that cover the question are the facts whose span holds it
+laid_times : (F : ℕ → Fact) (f : Fact) (t q : ℕ) → q < t → (xs : List Spanned) → sum_nodes (λ lo hi. leb lo q && ltb q hi) (λ m. times f (map F (laid t xs m))) 0 0 t ≡ sum_by (λ x. cond (same f (F x.number) && (leb x.span.0 q && ltb q x.span.1)) 1 0) xs
+laid_times F f t q h xs =
+    sum_laid (λ lo hi. leb lo q && ltb q hi) t (omega arith) (λ l. times f (map F l)) (λ i. same f (F i)) refl (times_both F f) (times_copies F f) xs
+    ∙ (λ i. sum_by (λ x. (ap (λ n. cond (same f (F x.number)) n 0) (pieces_partition t x.span.0 x.span.1 q h) ∙ both (same f (F x.number)) (leb x.span.0 q && ltb q x.span.1)) i) xs)
+  where
+    both : (a c : Bool) → ◌≡◌ {A = ℕ} (cond a (cond c 1 0) 0) (cond (a && c) 1 0)
+    both true c = refl
+    both false c = refl
+
+pub living : (rs : List Record) (q : ℕ) → q < question_count rs → (g : ℕ → List Fact) → ((m : ℕ) → g m ≡ map (numbered_fact rs) (laid (question_count rs) (spanned rs) m)) → (st : List Fact) → EquallyOften (stack_to g 0 0 (question_count rs) q st) (alive_at rs q ++ st)
 living rs q h g e st f =
     let t = question_count rs in
     let F = numbered_fact rs in
-    let xs = spanned_in rs (length rs) in
-    let all : question_count rs - 0 ≡ question_count rs = omega arith in
-    ap (λ d. times f (stack_below g d 0 0 t q st)) all
-    ∙ times_stack f g t 0 0 t q st
-    ∙ ap (λ n. n + times f st) (path_same (λ m. times f (g m)) (λ m. times f (map F (laid t xs m))) (λ m. ap (times f) (e m)) t 0 0 t q ∙ laid_path F f t q h xs ∙ sum_all rs (λ x. cond (same f (F x.number) && (leb x.span.0 q && ltb q x.span.1)) 1 0) ∙ alive_times rs q f h)
+    let xs = spanned rs in
+    times_stack f g q 0 0 t (omega arith) st (omega arith) h
+    ∙ ap (λ n. n + times f st) ((λ i. sum_nodes (λ lo hi. leb lo q && ltb q hi) (λ m. times f (e m i)) 0 0 t) ∙ laid_times F f t q h xs ∙ sum_spanned rs (λ x. cond (same f (F x.number) && (leb x.span.0 q && ltb q x.span.1)) 1 0) ∙ alive_times rs q f h)
     ∙ sym (sum_by-append (λ y. cond (same f y) 1 0) (alive_at rs q) st)

@@ -1,5 +1,10 @@
 pub mod Tree
 pub mod Chains
+pub mod Folds
+pub mod Overlaps
 pub mod Walks
+pub mod Nodes
+pub mod Placed
 pub mod Laid
 pub mod Solving
+pub mod Tables

@@ -73,13 +73,10 @@ judge_tables k st rs z = refused_at TableShort (table_too_short rs z) (refused_a
 abbrev pub judge_solve : Kind → List Fact → List Record → Sizes → Result ℕ SolveError
 judge_solve k st rs z = cond (nat_lt z.answers (question_count rs)) (Err (record { refusal = AnswersShort; place = 0 })) (refused_at NotAdmitted (first_unsuited k rs) (judge_tables k st rs z))
 
--- none of them refuses, for private contracts
-pub record Accepted (k : Kind) (st : List Fact) (rs : List Record) (z : Sizes) : Type 0 where
-  pub long : question_count rs ≤ z.answers
+-- what the tests on the answers table and the structure find if they do not refuse, for private contracts
+pub record Accepted (k : Kind) (st : List Fact) (rs : List Record) (answers : ℕ) : Type 0 where
+  pub long : question_count rs ≤ answers
   pub fit : first_unsuited k rs ≡ None
-  pub spans_long : 2 * fact_count rs ≤ z.spans
-  pub nodes_long : 4 * question_count rs ≤ z.nodes
-  pub pieces_long : 2 * piece_total rs ≤ z.pieces
   pub room : first_crowded rs (length st) k.capacity ≡ None
 
 abbrev pub solved_by : List Record → Result ℕ SolveError → Result Solved SolveError

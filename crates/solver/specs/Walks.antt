@@ -1,12 +1,12 @@
--- The walk through the tree, for private contracts: the stack at each question, given the facts at each node.
-use Rattle.std.specs.Prelude.{ℕ, zero, suc, ◌+◌, ◌-◌, ◌*◌, Bool, false, cond, List, [], ◌∷◌, map, length, drop, nat_le, nat_lt}
+-- The walk through the tree, for private contracts: the facts and questions of the records, by their numbers.
+use Rattle.std.specs.Prelude.{◌≡◌, true, Option, None, IsSomeAnd, ℕ, List, [], ◌∷◌, map, drop}
 use Rattle.undoable.specs.declared.facts.Fact.{Fact}
 use Rattle.undoable.specs.declared.facts.Question.{Question}
+use Rattle.undoable.specs.Kinds.{Kind}
 use Rattle.book.specs.declared.records.Record.{Record}
 use Rattle.book.specs.declared.records.Record.TheVariants as is
-use Rattle.book.specs.Records.{is_question}
-use Rattle.solver.specs.Chains.{facts_at}
-use Rattle.solver.specs.Tree.{middle}
+use Rattle.book.specs.Records.{question_in}
+use Rattle.book.specs.Spans.{fact_within}
 
 -- the fact and the question of a record; (0, 0) stands for none
 abbrev pub fact_of : Record → Fact
@@ -27,10 +27,17 @@ abbrev pub first_question : List Record → Question
 first_question [] = record { first = 0; second = 0 }
 first_question (r ∷ rs) = question_of r
 
--- the first record is a question
-abbrev pub asks_first : List Record → Bool
-asks_first [] = false
-asks_first (r ∷ rs) = is_question r
+-- the question of the first record, if it is one
+abbrev pub question_within : List Record → Option Question
+question_within [] = None
+question_within (r ∷ rs) = question_in r
+
+-- record number n enters a fact that is admitted, and it asks a question that is admitted
+abbrev pub EntersAdmitted : Kind → List Record → ℕ → Type 0
+EntersAdmitted k rs n = IsSomeAnd (fact_within (drop n rs)) (λ f. k.admits f ≡ true)
+
+abbrev pub AsksAdmitted : Kind → List Record → ℕ → Type 0
+AsksAdmitted k rs n = IsSomeAnd (question_within (drop n rs)) (λ q. k.asks q ≡ true)
 
 abbrev pub numbered_fact : List Record → ℕ → Fact
 numbered_fact rs n = first_fact (drop n rs)
@@ -38,29 +45,6 @@ numbered_fact rs n = first_fact (drop n rs)
 abbrev pub numbered_question : List Record → ℕ → Question
 numbered_question rs n = first_question (drop n rs)
 
--- the facts at node number m, where its chain has their record numbers
-abbrev pub node_facts : List Record → List ℕ → List ℕ → ℕ → List Fact
-node_facts rs ns ps m = map (numbered_fact rs) (facts_at ns ps m)
-
--- facts pushed one after the other on a stack
-abbrev pub onto : List Fact → List Fact → List Fact
-onto [] st = st
-onto (f ∷ fs) st = onto fs (f ∷ st)
-
--- the stack at question q, if the facts g of each node from (lo, hi), which has number m, down to the question are pushed on st
-abbrev pub stack_below : (ℕ → List Fact) → ℕ → ℕ → ℕ → ℕ → ℕ → List Fact → List Fact
-stack_below g zero m lo hi q st = st
-stack_below g (suc n) m lo hi q st =
-    cond (nat_le 2 (hi - lo)) (cond (nat_lt q (middle lo hi)) (stack_below g n (m + 1) lo (middle lo hi) q (onto (g m) st)) (stack_below g n (m + 2 * (middle lo hi - lo)) (middle lo hi) hi q (onto (g m) st))) (onto (g m) st)
-
-abbrev pub stack_to : (ℕ → List Fact) → ℕ → ℕ → ℕ → ℕ → List Fact → List Fact
-stack_to g m lo hi q st = stack_below g (hi - lo) m lo hi q st
-
--- how many facts lie at the node and below it
-abbrev pub weight_below : (ℕ → List Fact) → ℕ → ℕ → ℕ → ℕ → ℕ
-weight_below g zero m lo hi = 0
-weight_below g (suc n) m lo hi =
-    length (g m) + cond (nat_le 2 (hi - lo)) (weight_below g n (m + 1) lo (middle lo hi) + weight_below g n (m + 2 * (middle lo hi - lo)) (middle lo hi) hi) 0
-
-abbrev pub weight : (ℕ → List Fact) → ℕ → ℕ → ℕ → ℕ
-weight g m lo hi = weight_below g (hi - lo) m lo hi
+-- the facts at node number m, where the lists xs have their record numbers
+abbrev pub facts_of : List Record → (ℕ → List ℕ) → ℕ → List Fact
+facts_of rs xs m = map (numbered_fact rs) (xs m)

@@ -1,7 +1,7 @@
 // Whether a structure admits all that a book asks of it.
-ghost use Rattle.std.specs.Prelude.{◌≡◌, drop};
+ghost use Rattle.std.specs.Prelude.{◌≡◌};
 ghost use Rattle.book.specs.View.{records_of};
-ghost use Rattle.solver.specs.Solving.{suits, first_suits, first_unsuited};
+ghost use Rattle.solver.specs.Solving.{suits, first_unsuited};
 
 use book::{Book, Record};
 use undoable::Undoable;
@@ -10,21 +10,7 @@ use undoable::Undoable;
 pub(crate) fn first_unfit<U: Undoable>(structure: &U, book: &Book) -> Option<usize>
     ensures { result ≡ first_unsuited (U.Undoable.kind structure.now) (records_of book.now) }
 {
-    for i in 0..book.record_count() {
-        if !number_suits(structure, book, i) {
-            return Some(i);
-        }
-    }
-    None
-}
-
-fn number_suits<U: Undoable>(structure: &U, book: &Book, number: usize) -> bool
-    ensures { result ≡ first_suits (U.Undoable.kind structure.now) (drop number (records_of book.now)) }
-{
-    match book.read(number) {
-        Ok(shown) => item_suits(structure, shown.item),
-        Err(_) => true,
-    }
+    book.records().position(|item| !item_suits(structure, item))
 }
 
 fn item_suits<U: Undoable>(structure: &U, item: Record) -> bool

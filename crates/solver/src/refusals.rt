@@ -28,6 +28,18 @@ pub struct Solved {
     pub deepest: usize,
 }
 
+impl SolveRefusal {
+    // The error of a refusal at a place.
+    pub(crate) fn at(self, place: usize) -> SolveError
+        ensures { result ≡ record { refusal = self; place = place } }
+    {
+        SolveError {
+            refusal: self,
+            place,
+        }
+    }
+}
+
 impl SolveError {
     // The refusal's number.
     pub fn number(&self) -> u32

@@ -1,4 +1,3 @@
-pub mod Stacking
 pub mod Popping
 pub mod Orders
 pub mod Pushing

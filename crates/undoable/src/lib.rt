@@ -2,6 +2,7 @@
 #![tactic(auto)]
 
 pub mod facts;
+pub mod history;
 pub mod interface;
 pub mod marks;
 pub mod refusals;
@@ -9,6 +10,7 @@ pub mod rollback;
 pub mod trial;
 
 pub use facts::{Fact, Question};
+pub use history::History;
 pub use interface::Undoable;
 pub use marks::{Mark, keep, roll_back, take_mark};
 pub use refusals::{AskRefusal, PopRefusal, PushRefusal};

@@ -23,8 +23,9 @@ impl Mark {
 pub fn take_mark<U: Undoable>(structure: &U) -> Mark
     ensures { result.height ≡ length (U.Undoable.stack structure.now) }
 {
-    let height = structure.height();
-    Mark { height }
+    Mark {
+        height: structure.height(),
+    }
 }
 
 // Pops until the height is at most the mark's, and says how many facts that took.
@@ -36,7 +37,7 @@ pub fn roll_back<U: Undoable>(structure: &mut U, mark: Mark) -> usize
 {
     let Mark { height } = mark;
     let above = structure.height().saturating_sub(height);
-    for i in 0..above {
+    for _ in 0..above {
         let _ = structure.pop();
     }
     above

@@ -1,6 +1,6 @@
-// The rollback stack: saved records in memory that is lent to it, written once for every type of record.
+// The rollback stack: saved records in memory that is lent to it, written once for every type of record. All its calls take it
+// for writing, and say what stays.
 ghost use Rattle.std.specs.Prelude.{◌≡◌, ◌≤◌, [], length};
-ghost use Rattle.undoable.specs.Stacks.{held, room, put_result, put_after, take_result, take_after};
 
 use crate::refusals::{PopRefusal, PushRefusal};
 
@@ -9,9 +9,12 @@ use crate::refusals::{PopRefusal, PushRefusal};
 pub struct Stack<'a, T> {
     cells: &'a mut [T],
     height: usize,
+    ghost within: { height ≤ length cells.now },
 }
 
 impl<'a, T: Copy> Stack<'a, T> {
+    ghost use Rattle.undoable.specs.Stacks.{held, room, put_result, put_after, take_result, take_after};
+
     // An empty stack over `cells`.
     pub fn new(cells: &'a mut [T]) -> Stack<'a, T>
         ensures held { held result ≡ [] }
@@ -27,12 +30,11 @@ impl<'a, T: Copy> Stack<'a, T> {
         ensures room { room self.new ≡ room self.old }
         ensures lent { self.new.cells.ghost_name ≡ self.old.cells.ghost_name }
     {
-        let at = self.height;
-        if self.cells.len() <= at {
+        if self.height == self.cells.len() {
             return Err(PushRefusal::Full);
         }
-        self.cells[at] = item;
-        self.height = at + 1;
+        self.cells[self.height] = item;
+        self.height += 1;
         Ok(())
     }
 
@@ -43,14 +45,11 @@ impl<'a, T: Copy> Stack<'a, T> {
         ensures room { room self.new ≡ room self.old }
         ensures lent { self.new.cells.ghost_name ≡ self.old.cells.ghost_name }
     {
-        let used = self.height.min(self.cells.len());
-        if used == 0 {
+        if self.height == 0 {
             return Err(PopRefusal::Empty);
         }
-        let top = used - 1;
-        let item = self.cells[top];
-        self.height = top;
-        Ok(item)
+        self.height -= 1;
+        Ok(self.cells[self.height])
     }
 
     // How many records it holds.
@@ -60,7 +59,7 @@ impl<'a, T: Copy> Stack<'a, T> {
         ensures room { room self.new ≡ room self.old }
         ensures lent { self.new.cells.ghost_name ≡ self.old.cells.ghost_name }
     {
-        self.height.min(self.cells.len())
+        self.height
     }
 
     // How many it can hold.

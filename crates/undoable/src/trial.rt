@@ -13,15 +13,11 @@ pub fn ask_with<U: Undoable>(structure: &mut U, fact: Fact, question: Question) 
     ensures kind { U.Undoable.kind structure.new ≡ U.Undoable.kind structure.old }
 {
     let mark = take_mark(structure);
-    match structure.push(fact) {
-        Err(_) => {
-            keep(mark);
-            None
-        }
-        Ok(()) => {
-            let answer = structure.ask(question);
-            let _ = roll_back(structure, mark);
-            answer.ok()
-        }
+    if structure.push(fact).is_err() {
+        keep(mark);
+        return None;
     }
+    let answer = structure.ask(question);
+    let _ = roll_back(structure, mark);
+    answer.ok()
 }

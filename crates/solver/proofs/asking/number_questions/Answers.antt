@@ -1,77 +1,64 @@
-use Rattle.std.proofs.Common.{◌≡◌, ℕ, ◌+◌, ◌<◌, ◌≤◌, Bool, true, false, cond, ◌≢◌, List, length, get_or, take, drop, set, sym, ap, ◌∙◌, ⊎_elim, arith}
-use Rattle.std.proofs.lemmas.List.{get_or-set_same, get_or-set_other, take_all}
-use Rattle.std.proofs.lemmas.List.Sums.{sum_by-take-le}
-use Rattle.std.proofs.lemmas.Bool.{cases_lt, cases_Bool, cond-true, cond-false}
+use Rattle.std.proofs.Common.{Bool, ◌≡◌, ◌<◌, ◌≢◌, length, get_or, set, is_some, sym, ap, ◌∙◌, ⊎_elim, arith, rules, tests}
+use Rattle.std.proofs.lemmas.Bool.{cases_eq}
+use Rattle.std.proofs.lemmas.List.{get_or-set_same, get_or-set_other, length_push}
+use Rattle.std.proofs.lemmas.List.FromFn.{length-enumerate_from}
+use Rattle.std.proofs.lemmas.List.Sums.{count_by-le-length}
+use Rattle.std.proofs.lemmas.Iterator.Consumers.{YieldsList-at, YieldsList-from_enumerate, YieldsList-turn, YieldsList-end}
 use Rattle.book.specs.declared.records.Record.{Record}
-use Rattle.book.specs.Records.{is_question, question_count}
+use Rattle.book.specs.Records.{is_question, question_count, question_in}
 use Rattle.book.specs.Spans.{before}
 use Rattle.book.specs.View.{records_of}
-use Rattle.solver.specs.Walks.{asks_first}
-use Rattle.book.proofs.Coding.{cond_small}
-use Rattle.solver.proofs.Entered.{few_records}
-use Rattle.solver.proofs.Questions.{asked_more, asked_here}
+use Rattle.solver.proofs.Passing.{kept, kept_records, question_turn, questions_kept}
+use Rattle.solver.proofs.Questions.{before_less}
 use Rattle.solver.proofs.asking.number_questions.Goals as goal
+use Rattle.solver.proofs.asking.number_questions.Goals.{In-Some}
 
--- one entry is written, or none: what the numbers before it and the entries behind it are then
-module _ (rs : List Record) (i asked : ℕ) (ws vs : List ℕ) (b : Bool) (lt : i < length rs) (is : b ≡ asks_first (drop i rs)) (count : asked ≡ question_count (take i rs)) (room : asked + cond b 1 0 ≤ length ws) (new : vs ≡ cond b (set ws asked i) ws) where
-  numbers_more : ((q : ℕ) → q < asked → get_or ws q 0 ≡ length (before q rs)) → (q : ℕ) → q < asked + cond b 1 0 → get_or vs q 0 ≡ length (before q rs)
-  numbers_more old q h =
-      ⊎_elim
-      (λ (e : b ≡ true).
-      let one : ◌≡◌ {A = ℕ} (cond b 1 0) 1 = cond-true _ 1 0 e in
-      let v : vs ≡ set ws asked i = new ∙ cond-true _ _ _ e in
-      ⊎_elim
-      (λ (l : q < asked). let ne : q ≢ asked = omega arith in ap (λ l. get_or l q 0) v ∙ get_or-set_other ws asked q i 0 ne ∙ old q l)
-      (λ (l : asked ≤ q).
-      let here : q ≡ asked = omega arith in
-      (λ j. get_or (v j) (here j) 0) ∙ get_or-set_same ws asked i 0 (omega arith) ∙ sym (asked_here rs i lt (sym is ∙ e)) ∙ ap (λ n. length (before n rs)) (sym (here ∙ count)))
-      (cases_lt q asked))
-      (λ (e : b ≡ false).
-      let none : ◌≡◌ {A = ℕ} (cond b 1 0) 0 = cond-false _ 1 0 e in
-      ap (λ l. get_or l q 0) (new ∙ cond-false _ _ _ e) ∙ old q (omega arith))
-      (cases_Bool b)
+abbrev asks : Record → Bool
+asks r = is_some (question_in r)
 
-  others_more : (first : List ℕ) → ((q : ℕ) → asked ≤ q → get_or ws q 0 ≡ get_or first q 0) → (q : ℕ) → asked + cond b 1 0 ≤ q → get_or vs q 0 ≡ get_or first q 0
-  others_more first old q h =
-      ⊎_elim
-      (λ (e : b ≡ true).
-      let one : ◌≡◌ {A = ℕ} (cond b 1 0) 1 = cond-true _ 1 0 e in
-      let ne : q ≢ asked = omega arith in
-      ap (λ l. get_or l q 0) (new ∙ cond-true _ _ _ e) ∙ get_or-set_other ws asked q i 0 ne ∙ old q (omega arith))
-      (λ (e : b ≡ false). ap (λ l. get_or l q 0) (new ∙ cond-false _ _ _ e) ∙ old q (omega arith))
-      (cases_Bool b)
+-- the question of this turn
+turn : (c : In-Some) → (c.in-Some.question ≡ length c.loop-question.yielded) × (c.in-Some.question < question_count (records_of c.args.book.now)) × (c.in-Some.number ≡ length (before c.in-Some.question (records_of c.args.book.now)))
+turn c =
+    question_turn (records_of c.args.book.now) (length c.loop-question.yielded) c.in-Some.question c.in-Some.number c.in-Some.field-0-1-1
+    (YieldsList-turn
+    (YieldsList-at c.into_iter-question-iterator.ensures.into_iter_gives (YieldsList-from_enumerate (YieldsList-at c.enumerate-question-items.ensures.source (kept_records _ asks c.filter-asked.ensures.source c.enumerate.ensures.source c.enumerate.ensures.count (records_of c.args.book.now) c.records.ensures.gives c.filter-asked.ensures.closure (λ x b q k. search (rules, tests)))) c.enumerate-question-items.ensures.count))
+    c.loop-question.yielded c.loop-question.question-iterator c.loop-question.yielded_by c.next.result c.next.new.self (c.in-Some.question, (c.in-Some.number, c.in-Some.field-0-1-1)) c.in-Some.is c.next.ensures.steps)
 
-pub write_number-asked-requires : goal.write_number-asked-requires
-write_number-asked-requires c =
-    let rs = records_of c.args.book.now in
-    let lt : c.loop-i.i < length (records_of c.args.book.now) = omega (arith, c.record_count-i-end.ensures) in
-    record {
-      room = omega (arith, c.requires, c.loop-i.invariant.0, asked_more rs c.loop-i.i lt, sum_by-take-le (λ r. cond (is_question r) 1 0) rs (c.loop-i.i + 1), ap (λ b. cond {A = ℕ} b 1 0) c.is_question-question.ensures);
-      small = omega (arith, few_records c.args.book.now, c.record_count-i-end.ensures);
-    }
+-- after the last turn
+all : (c : goal.In-None) → length c.loop-question.yielded ≡ question_count (records_of c.args.book.now)
+all c =
+    let end =
+    (YieldsList-end
+    (YieldsList-at c.into_iter-question-iterator.ensures.into_iter_gives (YieldsList-from_enumerate (YieldsList-at c.enumerate-question-items.ensures.source (kept_records _ asks c.filter-asked.ensures.source c.enumerate.ensures.source c.enumerate.ensures.count (records_of c.args.book.now) c.records.ensures.gives c.filter-asked.ensures.closure (λ x b q k. search (rules, tests)))) c.enumerate-question-items.ensures.count))
+    c.loop-question.yielded c.loop-question.question-iterator c.loop-question.yielded_by c.next.result c.next.new.self c.in-None.is c.next.ensures.steps)
+    in
+    omega (arith, end.1, length-enumerate_from 0 (kept asks 0 (records_of c.args.book.now)), questions_kept 0 (records_of c.args.book.now))
 
-pub loop-i-preserved : goal.loop-i-preserved
-loop-i-preserved c =
-    let rs = records_of c.args.book.now in
-    let b = c.is_question-question.result in
-    let lt : c.loop-i.i < length (records_of c.args.book.now) = omega (arith, c.record_count-i-end.ensures) in
-    let is = c.is_question-question.ensures in
-    let one = ap (λ x. cond {A = ℕ} x 1 0) is in
-    let room : c.loop-i.asked + cond c.is_question-question.result 1 0 ≤ length c.loop-i.answers = omega (arith, c.requires, c.loop-i.invariant.0, asked_more rs c.loop-i.i lt, sum_by-take-le (λ r. cond (is_question r) 1 0) rs (c.loop-i.i + 1), one) in
-    let new = c.write_number-asked.ensures.written in
-    let wrote = c.write_number-asked.ensures.count in (
-      omega (arith, wrote, c.loop-i.invariant.0, asked_more rs c.loop-i.i lt, one),
-      λ q h. numbers_more rs c.loop-i.i c.loop-i.asked c.loop-i.answers c.write_number-asked.new.answers b lt is c.loop-i.invariant.0 room new c.loop-i.invariant.1 q (omega (arith, wrote)),
-      λ q h. others_more rs c.loop-i.i c.loop-i.asked c.loop-i.answers c.write_number-asked.new.answers b lt is c.loop-i.invariant.0 room new c.args.answers.now c.loop-i.invariant.2 q (omega (arith, wrote)),
-      omega (arith, wrote, c.loop-i.invariant.3, cond_small b),
+pub overflow_cast-answers : goal.overflow_cast-answers
+overflow_cast-answers c = omega (arith, turn c, before_less (records_of c.args.book.now) c.in-Some.question (turn c).1, c.records.ensures.few, ap length c.records.ensures.gives)
+
+pub offset_bounds-answers-question : goal.offset_bounds-answers-question
+offset_bounds-answers-question c = omega (arith, turn c, c.records.ensures.few, ap length c.records.ensures.gives, count_by-le-length is_question (records_of c.args.book.now))
+
+pub bounds-answers-question : goal.bounds-answers-question
+bounds-answers-question c = omega (arith, turn c, c.requires)
+
+pub loop-question-preserved : goal.loop-question-preserved
+loop-question-preserved c =
+    let t = turn c in
+    let n = length_push c.loop-question.yielded (c.in-Some.question, (c.in-Some.number, c.in-Some.field-0-1-1)) in
+    let lt : c.in-Some.question < length c.loop-question.answers = omega (arith, t, c.requires) in (
+      search rules,
+      search rules,
+      λ q h. ⊎_elim
+          (λ (e : q ≡ c.in-Some.question). (λ i. get_or (set c.loop-question.answers c.in-Some.question c.in-Some.number) (e i) 0) ∙ get_or-set_same c.loop-question.answers c.in-Some.question c.in-Some.number 0 lt ∙ t.2 ∙ ap (λ k. length (before k (records_of c.args.book.now))) (sym e))
+          (λ (ne : q ≢ c.in-Some.question). get_or-set_other c.loop-question.answers c.in-Some.question q c.in-Some.number 0 ne ∙ c.loop-question.invariant.2 q (omega (arith, n, t)))
+          (cases_eq q c.in-Some.question),
+      λ q h. let ne : q ≢ c.in-Some.question = omega (arith, n, t) in get_or-set_other c.loop-question.answers c.in-Some.question q c.in-Some.number 0 ne ∙ c.loop-question.invariant.3 q (omega (arith, n)),
     )
 
-pub returns : goal.returns
-returns c =
-    let rs = records_of c.args.book.now in
-    let past : length (records_of c.args.book.now) ≤ c.loop-i.i = omega (arith, c.record_count-i-end.ensures) in
-    let all : c.loop-i.asked ≡ question_count (records_of c.args.book.now) = c.loop-i.invariant.0 ∙ ap question_count (take_all c.loop-i.i rs past) in
-    record {
-      numbers = λ q h. c.loop-i.invariant.1 q (omega arith);
-      others = λ q h. c.loop-i.invariant.2 q (omega arith);
-    }
+pub returns-clause-numbers : goal.returns-clause-numbers
+returns-clause-numbers c = λ q h. c.loop-question.invariant.2 q (omega (arith, all c))
+
+pub returns-clause-others : goal.returns-clause-others
+returns-clause-others c = λ q h. c.loop-question.invariant.3 q (omega (arith, all c))

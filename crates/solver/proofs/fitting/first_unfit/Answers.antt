@@ -1,35 +1,30 @@
-use Rattle.std.proofs.Common.{◌≡◌, ℕ, ◌+◌, ◌-◌, ◌<◌, Bool, not, length, drop, sym, ap, ◌∙◌, arith}
+use Rattle.std.proofs.Common.{◌≡◌, ℕ, ◌+◌, not, cond, List, [], ◌∷◌, length, drop, Some, sym, refl, ap, ◌∙◌, add-one, rules, tests}
+use Rattle.std.specs.List.{position_from}
+use Rattle.std.proofs.lemmas.Iterator.Adapters.{position_from-zero}
+use Rattle.std.proofs.lemmas.Iterator.Consumers.{YieldsList-from_first}
+use Rattle.std.proofs.lemmas.Iterator.Search.{position_from_yields_List}
+use Rattle.std.proofs.lemmas.List.{drop-drop}
+use Rattle.undoable.specs.Kinds.{Kind}
+use Rattle.book.specs.declared.records.Record.{Record}
+use Rattle.book.specs.Listed.{listed}
 use Rattle.book.specs.Spans.{first_from}
 use Rattle.book.specs.View.{records_of}
-use Rattle.book.proofs.Searching.{first_here, first_later}
-use Rattle.solver.specs.Solving.{first_suits}
+use Rattle.solver.specs.Solving.{suits, first_suits}
 use Rattle.solver.proofs.fitting.first_unfit.Goals as goal
 
-pub returns-then-not-number_suits : goal.returns-then-not-number_suits
-returns-then-not-number_suits g c =
-    let rs = records_of c.args.book.now in
-    let p : ℕ → Bool = λ n. not (first_suits (g.U.Undoable.kind c.args.structure.now) (drop n rs)) in
-    let lt : 0 < length (records_of c.args.book.now) - c.loop-i.i = omega (arith, c.record_count-i-end.ensures) in
-    sym (first_here p (length rs - c.loop-i.i) c.loop-i.i lt (ap not (sym c.if-not-number_suits.ensures))) ∙ c.loop-i.invariant
-
-pub loop-i-preserved : goal.loop-i-preserved
-loop-i-preserved g c =
-    let rs = records_of c.args.book.now in
-    let p : ℕ → Bool = λ n. not (first_suits (g.U.Undoable.kind c.args.structure.now) (drop n rs)) in
-    let lt : 0 < length (records_of c.args.book.now) - c.loop-i.i = omega (arith, c.record_count-i-end.ensures) in
-    let less : length (records_of c.args.book.now) - (c.loop-i.i + 1) ≡ length (records_of c.args.book.now) - c.loop-i.i - 1 = omega arith in
-    ap (λ n. first_from p n (c.loop-i.i + 1)) less ∙ sym (first_later p (length rs - c.loop-i.i) c.loop-i.i lt (ap not (sym c.if-not-number_suits.ensures))) ∙ c.loop-i.invariant
-
-pub loop-i-init : goal.loop-i-init
-loop-i-init g c =
-    let rs = records_of c.args.book.now in
-    let p : ℕ → Bool = λ n. not (first_suits (g.U.Undoable.kind c.args.structure.now) (drop n rs)) in
-    let all : length (records_of c.args.book.now) - 0 ≡ length (records_of c.args.book.now) = omega arith in
-    ap (λ n. first_from p n 0) all
+-- the search by the definition, from record number i on
+unsuited_from : (k : Kind) (rs : List Record) (i : ℕ) (xs : List Record) → drop i rs ≡ xs → position_from (λ r. not (suits k r)) i xs ≡ first_from (λ n. not (first_suits k (drop n rs))) (length xs) i
+unsuited_from k rs i [] e = refl
+unsuited_from k rs i (x ∷ xs) e =
+    let here = sym (ap (first_suits k) e) in
+    let next = sym (drop-drop 1 i rs) ∙ ap (drop 1) e in
+    let rest = unsuited_from k rs (i + 1) xs next ∙ ap (first_from (λ n. not (first_suits k (drop n rs))) (length xs)) (add-one i) in
+    λ j. cond (not (here j)) (Some i) (rest j)
 
 pub returns : goal.returns
 returns g c =
+    let k = g.U.Undoable.kind c.args.structure.now in
     let rs = records_of c.args.book.now in
-    let p : ℕ → Bool = λ n. not (first_suits (g.U.Undoable.kind c.args.structure.now) (drop n rs)) in
-    let none : length (records_of c.args.book.now) - c.loop-i.i ≡ 0 = omega (arith, c.record_count-i-end.ensures) in
-    ap (λ n. first_from p n c.loop-i.i) (sym none) ∙ c.loop-i.invariant
+    position_from_yields_List (λ r. not (suits k r)) c.position.new.self _ _ c.position.ensures.ran (YieldsList-from_first (λ x. x) listed rs c.records.ensures.gives) (λ x b q k. search (rules, tests))
+    ∙ position_from-zero (λ r. not (suits k r)) rs
+    ∙ unsuited_from k rs 0 rs refl

@@ -1,88 +1,119 @@
-use Rattle.std.proofs.Common.{◌≡◌, ℕ, ◌+◌, ◌*◌, ◌<◌, Bool, true, false, cond, List, [], ◌++◌, length, get_or, replicate, sym, refl, ap, ◌∙◌, arith}
-use mir.Val.{bool_byte}
+use Rattle.std.proofs.Common.{◌≡◌, ℕ, ◌+◌, ◌<◌, ◌≤◌, List, [], ◌∷◌, ◌++◌, length, replicate, get_or, take, sum_by, is_some, sym, ap, ◌∙◌, append_assoc, arith, rules, tests}
+use Rattle.std.proofs.lemmas.List.{append-nil, length_push, take_all, take_more}
+use Rattle.std.proofs.lemmas.List.Sums.{sum_by_more, sum_by_more_le}
+use Rattle.std.proofs.lemmas.Iterator.{YieldsList-from_slice, YieldsList-from_zip}
+use Rattle.std.proofs.lemmas.Iterator.Consumers.{YieldsList-at, YieldsList-turn, YieldsList-end}
 use Rattle.book.specs.declared.records.Record.{Record}
-use Rattle.book.specs.Records.{question_count}
-use Rattle.book.specs.Spans.{span_at}
+use Rattle.book.specs.Records.{fact_in, question_count}
 use Rattle.book.specs.View.{records_of}
-use Rattle.solver.specs.Chains.{numbers_of, times_in}
-use Rattle.solver.specs.Laid.{laid, spanned_in, is_there}
-use Rattle.book.proofs.Coding.{cond_small}
-use Rattle.solver.proofs.Entered.{few_records, pieces_within, spanned_front, spanned_more, pieces_front}
-use Rattle.solver.proofs.Placed.{numbers_if, numbers_here, count_here, laid_here, linked_none, facts_none}
+use Rattle.solver.specs.declared.span.Span.{Span}
+use Rattle.solver.specs.declared.subtree.TreeNode.{TreeNode}
+use Rattle.solver.specs.Chains.{times_in}
+use Rattle.solver.specs.Folds.{numbers_of}
+use Rattle.solver.specs.Laid.{Spanned, laid, spanned}
+use Rattle.solver.specs.Nodes.{IsRoot, pieces_under}
+use Rattle.solver.specs.Tree.{pieces_of}
+use Rattle.solver.proofs.Agreeing.{numbers_pieces}
+use Rattle.solver.proofs.Entered.{fact_turn, facts_zipped, spanned_count, spanned_within, sum_spanned}
+use Rattle.solver.proofs.Passing.{kept_records}
 use Rattle.solver.proofs.placing.place_all.Goals as goal
-use Rattle.solver.proofs.placing.place_all.Goals.{After-enters-entered}
+use Rattle.solver.proofs.placing.place_all.Goals.{In-Some}
 
-pub loop-i-init : goal.loop-i-init
-loop-i-init c = (refl, refl, linked_none _ _ c.clear.ensures, λ m. facts_none _ _ c.clear.ensures m, omega arith)
+-- what is read beyond a list
+abbrev any : Spanned
+any = record { number = 0; span = (0, 0) }
 
--- the record at which the loop stands, and the numbers of its span's pieces
-module _ (c : After-enters-entered) where
-  abbrev rs : List Record
-  rs = records_of c.args.book.now
+-- the fact of this turn
+abbrev here : In-Some → Spanned
+here c = get_or (spanned (records_of c.args.book.now)) (length c.loop-number.yielded) any
 
-  abbrev i : ℕ
-  i = c.loop-i.i
+turn : (c : In-Some) → (length c.loop-number.yielded < length (spanned (records_of c.args.book.now))) × (c.in-Some.number ≡ (here c).number) × (c.in-Some.span.now ≡ (here c).span.0 ∷ ((here c).span.1 ∷ []))
+turn c =
+    fact_turn (records_of c.args.book.now) c.args.spans.now c.requires.tabled.0 (length c.loop-number.yielded) c.in-Some.number c.in-Some.field-0-0-1 c.in-Some.span.now any
+    (YieldsList-turn
+    (YieldsList-at c.into_iter-number-iterator.ensures.into_iter_gives (YieldsList-from_zip
+    (YieldsList-at c.zip-number-items.ensures.first (kept_records _ (λ r. is_some (fact_in r)) c.filter-facts.ensures.source c.enumerate.ensures.source c.enumerate.ensures.count (records_of c.args.book.now) c.records.ensures.gives c.filter-facts.ensures.closure (λ x b q k. search (rules, tests))))
+    (YieldsList-from_slice c.args.spans.now c.zip-number-items.ensures.second.0)))
+    c.loop-number.yielded c.loop-number.number-iterator c.loop-number.yielded_by c.next.result c.next.new.self ((c.in-Some.number, c.in-Some.field-0-0-1), c.in-Some.span) c.in-Some.is c.next.ensures.steps)
 
-  abbrev t : ℕ
-  t = c.question_count-t.result
+-- its pieces
+module _ (rs : List Record) (x : Spanned) (v : TreeNode) (root : IsRoot rs v) (y : Span) (w : List ℕ) (read : y ≡ record { start = get_or w 0 0; end = get_or w 1 0 }) (is : w ≡ x.span.0 ∷ (x.span.1 ∷ [])) where
+  pieces_here : pieces_under v y ≡ numbers_of x.span 0 0 (question_count rs)
+  pieces_here = (λ i. numbers_of ((read i).start, (read i).end) (root.0 i) (root.1 i) (root.2 i)) ∙ (λ i. numbers_of (get_or (is i) 0 0, get_or (is i) 1 0) 0 0 (question_count rs))
 
-  lt : i < length rs
-  lt = omega (arith, c.record_count-i-end.ensures)
+  count_here : length (pieces_under v y) ≡ length (pieces_of (question_count rs) x.span)
+  count_here = ap length pieces_here ∙ numbers_pieces (question_count rs) x.span.0 x.span.1 (omega (arith, root, v.tree.some))
 
-  some : 0 < t
-  some = omega (arith, c.requires.some, c.question_count-t.ensures)
+-- what is laid with one fact more
+laid-append : (t : ℕ) (xs ys : List Spanned) (m : ℕ) → laid t (xs ++ ys) m ≡ laid t ys m ++ laid t xs m
+laid-append t [] ys m = sym (append-nil (laid t ys m))
+laid-append t (x ∷ xs) ys m =
+    let new = replicate (times_in m (numbers_of x.span 0 0 t)) x.number in
+    ap (λ l. l ++ new) (laid-append t xs ys m) ∙ append_assoc (laid t ys m) (laid t xs m) new
 
-  abbrev numbers : List ℕ
-  numbers = numbers_if t (span_at rs i)
+laid_more : (t : ℕ) (xs : List Spanned) (n : ℕ) → n < length xs → (m : ℕ) → laid t (take (n + 1) xs) m ≡ replicate (times_in m (numbers_of (get_or xs n any).span 0 0 t)) (get_or xs n any).number ++ laid t (take n xs) m
+laid_more t xs n l m = ap (λ ys. laid t ys m) (take_more xs n any l) ∙ laid-append t (take n xs) (get_or xs n any ∷ []) m
 
-  these : cond c.enters-entered.result (numbers_of (get_or c.args.spans.now (2 * c.loop-i.facts) 0, get_or c.args.spans.now (2 * c.loop-i.facts + 1) 0) 0 0 t) [] ≡ numbers
-  these =
-      (λ j. cond (c.enters-entered.ensures j) (numbers_of (get_or c.args.spans.now (2 * c.loop-i.invariant.0 j) 0, get_or c.args.spans.now (2 * c.loop-i.invariant.0 j + 1) 0) 0 0 t) [])
-      ∙ numbers_here rs i t c.question_count-t.ensures some c.args.spans.now lt c.requires.tabled.0
+pub overflow_cast-number : goal.overflow_cast-number
+overflow_cast-number c =
+    let t = turn (goal.at.overflow_cast-number c).In-Some in
+    let w = spanned_within (records_of c.args.book.now) (length c.loop-number.yielded) any t.0 in
+    omega (arith, t.1, w.0, c.records.ensures.few, ap length c.records.ensures.gives)
 
-  counted : pieces_within rs (i + 1) ≡ pieces_within rs i + length numbers
-  counted = count_here rs i t c.question_count-t.ensures some c.args.spans.now lt c.requires.tabled.0
+pub place-requires-clause-room : goal.place-requires-clause-room
+place-requires-clause-room c =
+    let rs = records_of c.args.book.now in
+    let d = (goal.at.place-requires-clause-room c).In-Some in
+    let t = turn d in
+    omega (
+      arith,
+      c.loop-number.invariant.2,
+      c.loop-number.invariant.5,
+      c.requires.pieces,
+      count_here rs (here d) c.args.root c.requires.root c.from.result c.in-Some.span.now c.from.ensures t.2,
+      sum_by_more_le (λ (x : Spanned). length (pieces_of (question_count rs) x.span)) (spanned rs) (length c.loop-number.yielded) any t.0,
+      sum_spanned rs (λ x. length (pieces_of (question_count rs) x.span)),
+    )
 
-  one : cond {A = ℕ} c.enters-entered.result 1 0 ≡ cond (is_there (span_at rs i)) 1 0
-  one = ap (λ b. cond {A = ℕ} b 1 0) c.enters-entered.ensures
-
-pub place_record-used-requires : goal.place_record-used-requires
-place_record-used-requires c =
-    let d = (goal.at.place_record-used-requires c).After-enters-entered in
-    record {
-      some = (some d, omega (arith, lt d, few_records c.args.book.now));
-      linked = c.loop-i.invariant.2;
-      tabled = omega (arith, c.requires.tabled.1, c.loop-i.invariant.0, spanned_front (rs d) (i d + 1) (omega (arith, lt d)), spanned_more (rs d) (i d), one d);
-      numbered = (omega (arith, c.requires.nodes.0, c.question_count-t.ensures), omega (arith, c.requires.nodes.1));
-      room = (omega (arith, ap length (these d), counted d, c.loop-i.invariant.1, pieces_front (rs d) (i d + 1) (omega (arith, lt d)), c.requires.pieces.0), omega (arith, c.requires.pieces.1));
-    }
-
-pub loop-i-preserved : goal.loop-i-preserved
-loop-i-preserved c =
-    let d = (goal.at.loop-i-preserved c).After-enters-entered in
-    let put = c.place_record-used.ensures in
-    let entered : c.from-facts.result ≡ cond c.enters-entered.result 1 0 = c.from-facts.ensures ∙ byte c.enters-entered.result in (
-      omega (arith, c.loop-i.invariant.0, spanned_more (rs d) (i d), one d, entered),
-      omega (arith, put.count, ap length (these d), counted d, c.loop-i.invariant.1),
-      put.linked,
+pub loop-number-preserved : goal.loop-number-preserved
+loop-number-preserved c =
+    let rs = records_of c.args.book.now in
+    let xs = spanned rs in
+    let n = length c.loop-number.yielded in
+    let d = (goal.at.loop-number-preserved c).In-Some in
+    let t = turn d in
+    let x = here d in
+    let more = length_push c.loop-number.yielded ((c.in-Some.number, c.in-Some.field-0-0-1), c.in-Some.span) in
+    let old = c.loop-number.invariant in
+    let put = c.place.ensures in (
+      search rules,
+      search rules,
+      omega (
+        arith,
+        old.2,
+        put.used,
+        count_here rs x c.args.root c.requires.root c.from.result c.in-Some.span.now c.from.ensures t.2,
+        sum_by_more (λ (y : Spanned). length (pieces_of (question_count rs) y.span)) xs n any t.0,
+        ap (λ k. sum_by (λ (y : Spanned). length (pieces_of (question_count rs) y.span)) (take k xs)) more,
+      ),
       λ m.
           put.facts m
-          ∙ (λ j. replicate (times_in m (these d j)) (i d) ++ c.loop-i.invariant.3 m j)
-          ∙ ap (λ k. replicate (times_in m (numbers d)) (i d) ++ laid k (spanned_in (rs d) (i d)) m) (sym c.question_count-t.ensures)
-          ∙ sym (laid_here (rs d) (i d) (t d) c.question_count-t.ensures (some d) c.args.spans.now (lt d) c.requires.tabled.0 m)
-          ∙ ap (λ k. laid k (spanned_in (rs d) (i d + 1)) m) c.question_count-t.ensures,
-      omega (arith, entered, c.loop-i.invariant.4, cond_small c.enters-entered.result),
+          ∙ (λ i. replicate (times_in m (pieces_here rs x c.args.root c.requires.root c.from.result c.in-Some.span.now c.from.ensures t.2 i)) (t.1 i) ++ old.3 m i)
+          ∙ sym (laid_more (question_count rs) xs n t.0 m)
+          ∙ ap (λ k. laid (question_count rs) (take k xs) m) (sym more),
+      omega (arith, put.nodes, old.4),
+      omega (arith, put.pieces, old.5),
     )
-  where
-    byte : (b : Bool) → bool_byte b ≡ cond b 1 0
-    byte true = refl
-    byte false = refl
 
-pub returns : goal.returns
-returns c =
-    let all = records_of c.args.book.now in
-    let end : c.loop-i.i ≡ length (records_of c.args.book.now) = omega (arith, c.record_count-i-end.ensures) in
-    record {
-      linked = (c.loop-i.used, c.loop-i.invariant.2, omega (arith, c.loop-i.invariant.1, pieces_front all c.loop-i.i (omega arith), c.requires.pieces.0));
-      laid = λ m. c.loop-i.invariant.3 m ∙ ap (λ n. laid (question_count all) (spanned_in all n) m) end;
-    }
+pub returns-clause-laid : goal.returns-clause-laid
+returns-clause-laid c =
+    let rs = records_of c.args.book.now in
+    let end =
+    YieldsList-end
+    (YieldsList-at c.into_iter-number-iterator.ensures.into_iter_gives (YieldsList-from_zip
+    (YieldsList-at c.zip-number-items.ensures.first (kept_records _ (λ r. is_some (fact_in r)) c.filter-facts.ensures.source c.enumerate.ensures.source c.enumerate.ensures.count rs c.records.ensures.gives c.filter-facts.ensures.closure (λ x b q k. search (rules, tests))))
+    (YieldsList-from_slice c.args.spans.now c.zip-number-items.ensures.second.0)))
+    c.loop-number.yielded c.loop-number.number-iterator c.loop-number.yielded_by c.next.result c.next.new.self c.in-None.is c.next.ensures.steps
+    in
+    let all : length (spanned (records_of c.args.book.now)) ≤ length c.loop-number.yielded = omega (arith, end.1, facts_zipped rs c.args.spans.now, spanned_count rs, c.requires.tabled.1) in
+    λ m. c.loop-number.invariant.3 m ∙ ap (λ l. laid (question_count rs) l m) (take_all (length c.loop-number.yielded) (spanned rs) all)

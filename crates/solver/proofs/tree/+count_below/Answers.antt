@@ -1,31 +1,27 @@
-use Rattle.std.proofs.Common.{◌-◌, ◌<◌, ◌≤◌, ◌⊎◌, inl, inr, ⊎_elim, arith}
-use Rattle.solver.proofs.Counting.{count_apart, count_whole, count_parts}
+use Rattle.std.proofs.Common.{◌+◌, ◌-◌, ◌*◌, length, sym, ap, ◌∙◌, arith}
+use Rattle.solver.specs.Folds.{numbers_of}
+use Rattle.solver.specs.Tree.{middle}
+use Rattle.solver.proofs.Numbering.{numbers_apart, length_parts, numbers_few}
 use Rattle.solver.proofs.tree.+count_below.Goals as goal
-use Rattle.solver.proofs.tree.+count_below.Goals.{else-s-lo-via-then-s-lo+else-hi-e, else-s-lo-via-else-s-lo}
 
-pub returns-then-e-lo : goal.returns-then-e-lo
-returns-then-e-lo t c = record {
-  count = count_apart c.args.s c.args.e c.args.lo c.args.hi c.requires (inl c.if-e-lo.true);
-  most = omega arith;
-}
+pub overflow_add-result : goal.overflow_add-result
+overflow_add-result t c =
+    let x = c.args.span in
+    let a = c.halves.result.0 in
+    let b = c.halves.result.1 in
+    omega (arith, c.count_below.ensures 0, c.count_below-in-Across.ensures 0, numbers_few x.start x.end 0 a.lo a.hi a.some, numbers_few x.start x.end 0 b.lo b.hi b.some)
 
-pub returns-then-hi-s : goal.returns-then-hi-s
-returns-then-hi-s t c = record {
-  count = count_apart c.args.s c.args.e c.args.lo c.args.hi c.requires (inr c.if-hi-s.true);
-  most = omega arith;
-}
+pub returns-in-Apart : goal.returns-in-Apart
+returns-in-Apart t c = λ m. sym (ap length (numbers_apart c.args.span.start c.args.span.end m c.args.tree.lo c.args.tree.hi c.args.tree.some c.in-Apart.ensures))
 
-pub returns-then-hi-e : goal.returns-then-hi-e
-returns-then-hi-e t c = record {
-  count = count_whole c.args.s c.args.e c.args.lo c.args.hi c.requires c.if-s-lo.true c.if-hi-e.true;
-  most = omega (arith, c.requires);
-}
-
-pub returns : goal.returns
-returns t c =
-    let off : (c.args.lo < c.args.s) ⊎ (c.args.e < c.args.hi) = elim c.else-s-lo.branch [ else-s-lo-via-then-s-lo+else-hi-e w ↦ inr w.if-hi-e.false | else-s-lo-via-else-s-lo w ↦ inl w.if-s-lo.false ] in
-    let two : 2 ≤ c.args.hi - c.args.lo = ⊎_elim (λ (a : c.args.lo < c.args.s). omega arith) (λ (b : c.args.e < c.args.hi). omega arith) off in
-    record {
-      count = count_parts c.args.s c.args.e c.args.lo c.args.hi c.requires off two c.count_below.result c.count_below-2.result c.count_below.ensures.count c.count_below-2.ensures.count;
-      most = omega (arith, c.count_below.ensures.most, c.count_below-2.ensures.most);
-    }
+pub returns-in-Across : goal.returns-in-Across
+returns-in-Across t c =
+    λ m.
+    let x = c.args.span in
+    let v = c.args.tree in
+    let first = c.halves.ensures.first in
+    let second = c.halves.ensures.second in
+    let right = m + 2 * (middle c.args.tree.lo c.args.tree.hi - c.args.tree.lo) in
+    (λ i. c.count_below.ensures (m + 1) i + c.count_below-in-Across.ensures right i)
+    ∙ (λ i. length (numbers_of (x.start, x.end) (m + 1) (first.0 i) (first.1 i)) + length (numbers_of (x.start, x.end) right (second.0 i) (second.1 i)))
+    ∙ sym (length_parts x.start x.end m v.lo v.hi c.in-Across.ensures.0 c.in-Across.ensures.1)

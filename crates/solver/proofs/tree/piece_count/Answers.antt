@@ -1,29 +1,24 @@
-use Rattle.std.proofs.Common.{ℕ, ◌<◌, ltb, [], map, length, None, filter, sym, refl, ap, ◌∙◌, arith}
-use Rattle.std.proofs.lemmas.Bool.{cond-true, lt-ltb}
-use Rattle.solver.specs.Tree.{Placed, is_piece, nodes_from, pieces_of, WorkedPieces}
+use Rattle.std.proofs.Common.{◌∙◌, length, arith}
+use Rattle.solver.specs.Folds.{numbers_of}
 use Rattle.solver.proofs.Bounding.{pieces_few}
 use Rattle.solver.proofs.Covering.{pieces_partition}
+use Rattle.solver.proofs.Agreeing.{numbers_pieces}
 use Rattle.solver.proofs.tree.piece_count.Goals as goal
 
-worked : WorkedPieces
-worked = (refl, refl)
+pub returns-in-Some-clause-result : goal.returns-in-Some-clause-result
+returns-in-Some-clause-result c =
+    c.count_below.ensures 0
+    ∙ (λ i. length (numbers_of (c.args.s, c.args.e) 0 (c.in-Some.ensures.0 i) (c.in-Some.ensures.1 i)))
+    ∙ numbers_pieces c.args.t c.args.s c.args.e (omega (arith, c.in-Some.ensures.1, c.in-Some.tree.some))
 
-pub returns-then-t-eq0 : goal.returns-then-t-eq0
-returns-then-t-eq0 c = record {
-  result = sym (ap (λ t. length (pieces_of t (c.args.s, c.args.e))) c.if-t-eq0.true);
-  partition = pieces_partition;
-  few = pieces_few;
-  worked = worked;
-}
+pub returns-in-Some-clause-partition : goal.returns-in-Some-clause-partition
+returns-in-Some-clause-partition c = pieces_partition
 
-pub returns : goal.returns
-returns c =
-    let t = c.args.t in
-    let some : 0 < c.args.t = omega arith in
-    let x : ℕ × ℕ = (c.args.s, c.args.e) in
-    record {
-      result = c.count_below.ensures.count t None refl (omega arith) ∙ sym (ap (λ l. length (map (λ (v : Placed). v.node) (filter (is_piece x) l))) (cond-true (ltb 0 t) (nodes_from t None 0 t) [] (lt-ltb 0 t some)));
-      partition = pieces_partition;
-      few = pieces_few;
-      worked = worked;
-    }
+pub returns-in-Some-clause-few : goal.returns-in-Some-clause-few
+returns-in-Some-clause-few c = pieces_few
+
+pub returns-in-None-clause-partition : goal.returns-in-None-clause-partition
+returns-in-None-clause-partition c = pieces_partition
+
+pub returns-in-None-clause-few : goal.returns-in-None-clause-few
+returns-in-None-clause-few c = pieces_few

@@ -1,19 +1,13 @@
--- A pop of an empty structure.
-use Rattle.std.proofs.Common.{◌≡◌, [], sym, refl, ap, ◌∙◌}
-use Rattle.std.proofs.lemmas.List.{length-map, nil_from_length}
-use Rattle.undoable.specs.Calls.{pop_result, pop_stack}
-use Rattle.undoable.specs.Stacks.{held}
-use Rattle.bands.specs.Meaning.{stack_of}
-use Rattle.bands.specs.Rows.{fact_of}
+use Rattle.std.proofs.Common.{sym, ◌∙◌}
+use Rattle.bands.proofs.Holding.{holding, newest, popped}
 use Rattle.bands.proofs.calls.BandsUndoable.pop.Goals as goal
 
-pub returns-then-self-eq0 : goal.returns-then-self-eq0
-returns-then-self-eq0 c =
-    let p = c.args.self.now in
-    let none : stack_of p ≡ [] = nil_from_length (stack_of p) (length-map (held p.stack) fact_of ∙ sym p.high ∙ c.if-self-eq0.true) in
-    record {
-      result = sym (ap pop_result none);
-      stack = none ∙ sym (ap pop_stack none);
-      tally = refl;
-      kind = refl;
-    }
+pub undo-requires : goal.undo-requires
+undo-requires c =
+    let i = (newest (holding c.args.self.now) (sym c.pop.ensures.result ∙ c.in_ok-step.was)).inside in
+    record { low = i.low; high = i.high }
+
+pub invariant_of-self-2 : goal.invariant_of-self-2
+invariant_of-self-2 c =
+    let h = popped (holding c.args.self.now) (sym c.pop.ensures.result ∙ c.in_ok-step.was) c.pop.ensures.held c.undo.ensures in
+    record { admitted = h.admitted; present = h.present; steps = h.saved }

@@ -1,33 +1,17 @@
--- A push onto a full structure, and one that is accepted.
-use Rattle.std.proofs.Common.{◌<◌, ◌≤◌, length, sym, refl, ap, ◌∙◌, arith}
-use Rattle.std.proofs.lemmas.List.{length-map}
-use Rattle.undoable.specs.Stacks.{held}
-use Rattle.undoable.proofs.Pushing.{full_result, full_stack, full_tally, push_result_lem, push_stack_lem, push_tally_lem}
-use Rattle.bands.specs.Meaning.{capacity_of, kind_of, stack_of}
-use Rattle.bands.specs.Rule.{bands_kind}
-use Rattle.bands.specs.Rows.{fact_of}
+use Rattle.std.proofs.Common.{sym, ◌∙◌}
+use Rattle.bands.proofs.Holding.{put_on, holding, sound, stays_inside, pushed}
 use Rattle.bands.proofs.calls.BandsUndoable.push.Goals as goal
 
-pub returns-then-self : goal.returns-then-self
-returns-then-self c =
-    let p = c.args.self.now in
-    let admitted = sym c.if-not-is_fact.ensures in
-    let full : capacity_of c.args.self.now ≤ length (stack_of c.args.self.now) = omega (arith, c.if-self.true, p.high, p.limited, length-map (held p.stack) fact_of) in
-    record {
-      result = sym (full_result (kind_of p) (stack_of p) c.args.fact admitted full);
-      stack = sym (full_stack (kind_of p) (stack_of p) c.args.fact admitted full);
-      tally = sym (full_tally (kind_of p) (stack_of p) c.args.fact admitted full p.pushes);
-      kind = refl;
-    }
+pub step-step-requires : goal.step-step-requires
+step-step-requires c = record { sound = sound (holding c.args.self.now); admitted = sym c.if-not-is_fact.ensures }
 
-pub returns : goal.returns
-returns c =
-    let p = c.args.self.now in
-    let admitted = sym c.if-not-is_fact.ensures in
-    let free : length (stack_of c.args.self.now) < capacity_of c.args.self.now = omega (arith, c.if-self.false, p.high, p.limited, length-map (held p.stack) fact_of) in
-    record {
-      result = sym (push_result_lem (kind_of p) (stack_of p) c.args.fact admitted free);
-      stack = c.put.ensures.stack ∙ sym (push_stack_lem (kind_of p) (stack_of p) c.args.fact admitted free);
-      tally = c.put.ensures.tally ∙ sym (push_tally_lem (kind_of p) (stack_of p) c.args.fact admitted free p.pushes);
-      kind = ap bands_kind c.put.ensures.capacity;
-    }
+pub apply-requires : goal.apply-requires
+apply-requires c =
+    let i = stays_inside (holding c.args.self.now) c.args.fact (sym c.if-not-is_fact.ensures) c.step-step.ensures in
+    record { low = i.low; high = i.high; fits = i.fits }
+
+pub invariant_of-self-2 : goal.invariant_of-self-2
+invariant_of-self-2 c =
+    let on = c.push.ensures.held ∙ put_on _ _ _ (sym c.push.ensures.result ∙ c.in_ok-push.was) in
+    let h = pushed (holding c.args.self.now) c.args.fact (sym c.if-not-is_fact.ensures) c.step-step.ensures on c.apply.ensures in
+    record { admitted = h.admitted; present = h.present; steps = h.saved }

@@ -1,63 +1,51 @@
-use Rattle.std.proofs.Common.{◌≡◌, ◌+◌, ◌*◌, ◌<◌, ◌≤◌, ◌∷◌, length, drop, Some, sym, refl, ap, ◌∙◌, arith}
-use Rattle.std.proofs.lemmas.List.{drop_all}
+use Rattle.std.proofs.Common.{◌≡◌, ℕ, zero, suc, ◌+◌, List, [], ◌∷◌, drop, Some, sym, refl, ap, ◌∙◌}
 use Rattle.book.specs.declared.records.Record.{Record}
-use Rattle.book.specs.Spans.{fact_within, span_if}
-use Rattle.book.specs.Theorems.{WorkedBook}
+use Rattle.book.specs.declared.records.Record.TheVariants as is
+use Rattle.book.specs.Listed.{listed}
+use Rattle.book.specs.Records.{fact_in}
+use Rattle.book.specs.Spans.{until, fact_within, span_if}
 use Rattle.book.specs.View.{records_of}
-use Rattle.book.proofs.Coding.{length-reads, drop-reads}
 use Rattle.book.proofs.Judging.{alive_by_counts}
 use Rattle.book.proofs.Surviving.{alive_by_spans}
 use Rattle.book.proofs.state.Book.span.Goals as goal
-use Rattle.book.proofs.state.Book.span.Goals.{After-record_at}
 
-worked : WorkedBook
-worked = (refl, refl, refl, refl, refl, refl)
+pub returns-in_err-next-clause-alive : goal.returns-in_err-next-clause-alive
+returns-in_err-next-clause-alive c = alive_by_spans
 
-pub returns-then-number-self : goal.returns-then-number-self
-returns-then-number-self c =
-    let b = c.args.self.now in
-    let room : 2 * c.args.self.now.records ≤ length c.args.self.now.words = omega arith in
-    let past : length (records_of b) ≤ c.args.number = omega (arith, length-reads b.words b.records room) in
-    record {
-      result = sym (ap (λ l. span_if (records_of b) c.args.number (fact_within l)) (drop_all c.args.number (records_of b) past));
-      alive = alive_by_spans;
-      counts = alive_by_counts;
-      worked = worked;
-    }
+pub returns-in_err-next-clause-counts : goal.returns-in_err-next-clause-counts
+returns-in_err-next-clause-counts c = alive_by_counts
 
--- the record that the matcher read is the one with that number
-there : (c : After-record_at) → drop c.args.number (records_of c.args.self.now) ≡ c.record_at.result ∷ drop (c.args.number + 1) (records_of c.args.self.now)
-there c =
-    let b = c.args.self.now in
-    let room : 2 * c.args.self.now.records ≤ length c.args.self.now.words = omega arith in
-    let lt : c.args.number < c.args.self.now.records = omega arith in
-    drop-reads b.words c.args.number b.records lt room ∙ ap (λ r. r ∷ drop (c.args.number + 1) (records_of b)) (sym c.record_at.ensures)
+pub returns-in_err-fact-clause-alive : goal.returns-in_err-fact-clause-alive
+returns-in_err-fact-clause-alive c = alive_by_spans
 
-read_as : (c : After-record_at) (r : Record) → c.record_at.result ≡ r → fact_within (drop c.args.number (records_of c.args.self.now)) ≡ fact_within (r ∷ drop (c.args.number + 1) (records_of c.args.self.now))
-read_as c r e = ap fact_within (there c ∙ ap (λ x. x ∷ drop (c.args.number + 1) (records_of c.args.self.now)) e)
+pub returns-in_err-fact-clause-counts : goal.returns-in_err-fact-clause-counts
+returns-in_err-fact-clause-counts c = alive_by_counts
 
-pub returns-in-Fact : goal.returns-in-Fact
-returns-in-Fact c =
+pub returns-clause-alive : goal.returns-clause-alive
+returns-clause-alive c = alive_by_spans
+
+pub returns-clause-counts : goal.returns-clause-counts
+returns-clause-counts c = alive_by_counts
+
+first_fact : (r : Record) (rs : List Record) → fact_within (r ∷ rs) ≡ fact_in r
+first_fact (is.Fact f) rs = refl
+first_fact (is.Withdrawal f) rs = refl
+first_fact (is.Question q) rs = refl
+
+-- what stands behind the first of the records from number n on
+drop_next : (n : ℕ) (rs : List Record) (r : Record) (rest : List Record) → drop n rs ≡ r ∷ rest → drop (suc n) rs ≡ rest
+drop_next zero [] r rest e = cc
+drop_next zero (x ∷ rs) r rest e = cc
+drop_next (suc n) [] r rest e = cc
+drop_next (suc n) (x ∷ rs) r rest e = drop_next n rs r rest e
+
+pub returns-clause-result : goal.returns-clause-result
+returns-clause-result c =
     let rs = records_of c.args.self.now in
-    record {
-      result = sym (ap (span_if rs c.args.number) (read_as (goal.at.returns-in-Fact c).After-record_at _ c.in-Fact.is) ∙ ap Some (sym c.span_of.ensures));
-      alive = alive_by_spans;
-      counts = alive_by_counts;
-      worked = worked;
-    }
-
-pub returns-in-Withdrawal : goal.returns-in-Withdrawal
-returns-in-Withdrawal c = record {
-  result = sym (ap (span_if (records_of c.args.self.now) c.args.number) (read_as (goal.at.returns-in-Withdrawal c).After-record_at _ c.in-Withdrawal.is));
-  alive = alive_by_spans;
-  counts = alive_by_counts;
-  worked = worked;
-}
-
-pub returns-in-Question : goal.returns-in-Question
-returns-in-Question c = record {
-  result = sym (ap (span_if (records_of c.args.self.now) c.args.number) (read_as (goal.at.returns-in-Question c).After-record_at _ c.in-Question.is));
-  alive = alive_by_spans;
-  counts = alive_by_counts;
-  worked = worked;
-}
+    let n = c.args.number in
+    let r = c.in_ok-next.field-0 in
+    let f = c.in_ok-fact.fact in
+    let here : drop n rs ≡ r ∷ listed c.next.new.self = sym c.records_from-others.ensures ∙ c.in_ok-next.ensures.steps in
+    let is_fact = ap fact_within here ∙ first_fact r (listed c.next.new.self) ∙ sym c.fact.ensures ∙ c.in_ok-fact.was in
+    let after = c.questions_until-after.ensures.until ∙ (λ i. until f (c.front-before.ensures.equal i) (sym (drop_next n rs r _ here) i)) in
+    (λ i. Some (c.front-before.ensures.questions i, c.front-before.ensures.questions i + after i)) ∙ sym (ap (span_if rs n) is_fact)

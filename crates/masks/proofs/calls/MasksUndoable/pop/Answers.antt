@@ -1,18 +1,11 @@
-use Rattle.std.proofs.Common.{◌≡◌, [], sym, refl, ap, ◌∙◌}
-use Rattle.std.proofs.lemmas.List.{length-map, nil_from_length}
-use Rattle.undoable.specs.Calls.{pop_result, pop_stack}
-use Rattle.undoable.specs.Stacks.{held}
-use Rattle.masks.specs.Meaning.{stack_of}
-use Rattle.masks.specs.Saved.{fact_of}
+use Rattle.std.proofs.Common.{sym, ◌∙◌}
+use Rattle.masks.proofs.Standing.{standing, newest, popped}
 use Rattle.masks.proofs.calls.MasksUndoable.pop.Goals as goal
 
-pub returns-then-self-eq0 : goal.returns-then-self-eq0
-returns-then-self-eq0 c =
-    let p = c.args.self.now in
-    let none : stack_of p ≡ [] = nil_from_length (stack_of p) (length-map (held p.stack) (λ s. fact_of s.mask) ∙ sym p.high ∙ c.if-self-eq0.true) in
-    record {
-      result = sym (ap pop_result none);
-      stack = none ∙ sym (ap pop_stack none);
-      tally = refl;
-      kind = refl;
-    }
+pub clear-requires : goal.clear-requires
+clear-requires c = (newest (standing c.args.self.now) (sym c.pop.ensures.result ∙ c.in_ok-step.was)).fits
+
+pub invariant_of-self-2 : goal.invariant_of-self-2
+invariant_of-self-2 c =
+    let s = popped (standing c.args.self.now) (sym c.pop.ensures.result ∙ c.in_ok-step.was) c.pop.ensures.held c.clear.ensures in
+    record { masks = s.masks; steps = s.saved; made = s.made }

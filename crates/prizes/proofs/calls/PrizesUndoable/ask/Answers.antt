@@ -9,5 +9,5 @@ returns c =
     let asked = sym c.if-not-is_payout.ensures in
     let v = c.args.question.first in
     let lt : c.args.question.first < 1001 = omega (arith, leb-true c.args.question.first 1000 (and_parts _ _ asked).0) in
-    let number = c.from.ensures ∙ c.entry.ensures ∙ ap (λ (l : _). get_or l v 0) c.args.self.now.present ∙ row_entry (stack_of c.args.self.now) v lt in
+    let number = c.answer.ensures ∙ ap (λ (l : _). get_or l v 0) c.args.self.now.present ∙ row_entry (stack_of c.args.self.now) v lt in
     ap Ok number ∙ sym (cond-true _ _ _ asked)

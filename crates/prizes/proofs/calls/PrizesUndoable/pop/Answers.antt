@@ -1,18 +1,19 @@
-use Rattle.std.proofs.Common.{◌≡◌, [], sym, refl, ap, ◌∙◌}
-use Rattle.std.proofs.lemmas.List.{length-map, nil_from_length}
-use Rattle.undoable.specs.Calls.{pop_result, pop_stack}
-use Rattle.undoable.specs.Stacks.{held}
-use Rattle.prizes.specs.Meaning.{stack_of}
-use Rattle.prizes.specs.Saved.{fact_of}
+use Rattle.std.proofs.Common.{◌∷◌, sym, ap, ◌∙◌}
+use Rattle.undoable.specs.Stacks.{held, take_after}
+use Rattle.prizes.proofs.Histories.{take_refused, take_accepted}
+use Rattle.prizes.proofs.Holding.{refused, popped}
 use Rattle.prizes.proofs.calls.PrizesUndoable.pop.Goals as goal
 
-pub returns-then-self-eq0 : goal.returns-then-self-eq0
-returns-then-self-eq0 c =
+pub invariant_of-self : goal.invariant_of-self
+invariant_of-self c =
     let p = c.args.self.now in
-    let none : stack_of p ≡ [] = nil_from_length (stack_of p) (length-map (held p.stack) fact_of ∙ sym p.high ∙ c.if-self-eq0.true) in
-    record {
-      result = sym (ap pop_result none);
-      stack = none ∙ sym (ap pop_stack none);
-      tally = refl;
-      kind = refl;
-    }
+    let none = take_refused (held p.history.stack) _ (sym c.pop.ensures.result ∙ c.in_err-prize.was) in
+    refused p (held c.pop.new.self.stack) c.pop.new.self.limit c.pop.ensures.limit (c.pop.ensures.held ∙ ap take_after none ∙ sym none)
+
+pub invariant_of-self-2 : goal.invariant_of-self-2
+invariant_of-self-2 c =
+    let p = c.args.self.now in
+    let top = c.in_ok-prize.prize in
+    popped p (held c.pop.new.self.stack) c.pop.new.self.limit c.pop.ensures.limit top c.height-at.result c.restore.new.self
+    (take_accepted (held p.history.stack) top (sym c.pop.ensures.result ∙ c.in_ok-prize.was) ∙ ap (λ l. top ∷ l) (sym c.pop.ensures.held))
+    c.height-at.ensures c.restore.ensures.row c.restore.ensures.saved
