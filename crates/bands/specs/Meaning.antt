@@ -5,7 +5,7 @@ use Rattle.undoable.specs.declared.facts.Question.{Question}
 use Rattle.undoable.specs.declared.refusals.AskRefusal.{AskRefusal}
 use Rattle.undoable.specs.declared.refusals.AskRefusal.TheVariants.{NotAdmitted}
 use Rattle.undoable.specs.Kinds.{Kind}
-use Rattle.undoable.specs.Stacks.{held}
+use Rattle.undoable.specs.Stacks.{held, room}
 use Rattle.bands.specs.declared.relations.Relation.{Relation}
 use Rattle.bands.specs.declared.structure.Bands.{Bands}
 use Rattle.bands.specs.Rows.{facts_of}
@@ -14,9 +14,9 @@ use Rattle.bands.specs.Rule.{asks_bands, relation, bands_kind}
 abbrev pub stack_of : Bands → List Fact
 stack_of b = facts_of (held b.history.stack)
 
--- the greatest height of the stack
+-- the number of records in the memory lent
 abbrev pub capacity_of : Bands → ℕ
-capacity_of b = b.history.limit
+capacity_of b = room b.history.stack
 
 -- what is said of the two bands of a question
 abbrev pub relation_result : List Fact → Question → Result Relation AskRefusal

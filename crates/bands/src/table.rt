@@ -113,6 +113,7 @@ impl Table {
     fn climb(&self, band: Band) -> Place
         requires { Sound self.now.rows }
         ensures place { result ≡ place_of self.now.rows band.index }
+        ensures top { (row_at self.now.rows result.root).parent ≡ None }
         ensures inside { result.root < 1024 }
         ensures shallow { 2 ^ result.links ≤ (row_at self.now.rows result.root).size }
     {

@@ -37,6 +37,7 @@ impl<'b> Rows<'b> {
         requires { at < length self.old.saved.now }
         ensures row { self.new.row ≡ row_with prize self.old.row }
         ensures saved { self.new.saved.now ≡ slice_set self.old.saved.now at self.old.row }
+        ensures lent { self.new.saved.ghost_name ≡ self.old.saved.ghost_name }
     {
         let row = row_with_line(&self.row, prize);
         self.saved[at] = self.row;
@@ -48,6 +49,7 @@ impl<'b> Rows<'b> {
         requires { at < length self.old.saved.now }
         ensures row { self.new.row ≡ slice_index_or self.old.saved.now at [] }
         ensures saved { self.new.saved.now ≡ self.old.saved.now }
+        ensures lent { self.new.saved.ghost_name ≡ self.old.saved.ghost_name }
     {
         self.row = self.saved[at];
     }

@@ -22,6 +22,7 @@ impl<'a, T: Copy> History<'a, T> {
     pub fn new(cells: &'a mut [T], most: usize) -> History<'a, T>
         ensures held { held result.stack ≡ [] }
         ensures limit { result.limit ≡ min most (length cells.old) }
+        ensures room { room result.stack ≡ length cells.old }
         ensures tally { result.pushes ≡ 0 }
     {
         let limit = most.min(cells.len());
@@ -38,6 +39,7 @@ impl<'a, T: Copy> History<'a, T> {
         ensures result { result ≡ put_result self.old.limit (held self.old.stack) }
         ensures held { held self.new.stack ≡ put_after self.old.limit (held self.old.stack) item }
         ensures limit { self.new.limit ≡ self.old.limit }
+        ensures room { room self.new.stack ≡ room self.old.stack }
         ensures tally { self.new.pushes ≡ cond (is_ok (put_result self.old.limit (held self.old.stack))) ((self.old.pushes + 1) % 2 ^ 32) self.old.pushes }
         ensures lent { self.new.stack.cells.ghost_name ≡ self.old.stack.cells.ghost_name }
     {
@@ -55,6 +57,7 @@ impl<'a, T: Copy> History<'a, T> {
         ensures result { result ≡ take_result (held self.old.stack) }
         ensures held { held self.new.stack ≡ take_after (held self.old.stack) }
         ensures limit { self.new.limit ≡ self.old.limit }
+        ensures room { room self.new.stack ≡ room self.old.stack }
         ensures tally { self.new.pushes ≡ self.old.pushes }
         ensures lent { self.new.stack.cells.ghost_name ≡ self.old.stack.cells.ghost_name }
     {

@@ -10,4 +10,4 @@ undo-requires c =
 pub invariant_of-self-2 : goal.invariant_of-self-2
 invariant_of-self-2 c =
     let h = popped (holding c.args.self.now) (sym c.pop.ensures.result ∙ c.in_ok-step.was) c.pop.ensures.held c.undo.ensures in
-    record { admitted = h.admitted; present = h.present; steps = h.saved }
+    record { limited = c.pop.ensures.limit ∙ c.args.self.now.limited ∙ sym c.pop.ensures.room; admitted = h.admitted; present = h.present; steps = h.saved }

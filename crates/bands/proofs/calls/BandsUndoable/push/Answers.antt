@@ -14,4 +14,4 @@ pub invariant_of-self-2 : goal.invariant_of-self-2
 invariant_of-self-2 c =
     let on = c.push.ensures.held ∙ put_on _ _ _ (sym c.push.ensures.result ∙ c.in_ok-push.was) in
     let h = pushed (holding c.args.self.now) c.args.fact (sym c.if-not-is_fact.ensures) c.step-step.ensures on c.apply.ensures in
-    record { admitted = h.admitted; present = h.present; steps = h.saved }
+    record { limited = c.push.ensures.limit ∙ c.args.self.now.limited ∙ sym c.push.ensures.room; admitted = h.admitted; present = h.present; steps = h.saved }

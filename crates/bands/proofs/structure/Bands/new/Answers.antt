@@ -1,4 +1,5 @@
 -- An empty structure, and the theorems.
+use Rattle.std.proofs.Common.{arith}
 use Rattle.bands.proofs.Holding.{nothing_held}
 use Rattle.bands.proofs.Labels.{by_walks}
 use Rattle.bands.proofs.Tables.{taken_back}
@@ -8,7 +9,7 @@ use Rattle.bands.proofs.structure.Bands.new.Goals as goal
 pub invariant_of-result : goal.invariant_of-result
 invariant_of-result c =
     let h = nothing_held c.new.ensures.held c.new-2.ensures in
-    record { admitted = h.admitted; present = h.present; steps = h.saved }
+    record { limited = omega (arith, c.new.ensures.limit, c.new.ensures.room); admitted = h.admitted; present = h.present; steps = h.saved }
 
 pub returns-clause-walks : goal.returns-clause-walks
 returns-clause-walks c = by_walks

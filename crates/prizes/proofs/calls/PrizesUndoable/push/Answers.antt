@@ -14,7 +14,7 @@ use Rattle.prizes.proofs.calls.PrizesUndoable.push.Goals.{After-add}
 pub invariant_of-self : goal.invariant_of-self
 invariant_of-self c =
     let p = c.args.self.now in
-    refused p (held c.push.new.self.stack) c.push.new.self.limit c.push.ensures.limit
+    refused p (held c.push.new.self.stack) _ c.push.ensures.room c.push.new.self.limit c.push.ensures.limit
     (c.push.ensures.held ∙ put_refused p.history.limit (held p.history.stack) c.from-prize.result _ (sym c.push.ensures.result ∙ c.in_err-push.was))
 
 module _ (c : After-add) where
@@ -29,7 +29,7 @@ module _ (c : After-add) where
 
 pub invariant_of-self-2 : goal.invariant_of-self-2
 invariant_of-self-2 c =
-    pushed c.args.self.now (held c.push.new.self.stack) c.push.new.self.limit c.push.ensures.limit c.from-prize.result c.height-at.result c.add.new.self (on_top c) c.height-at.ensures
+    pushed c.args.self.now (held c.push.new.self.stack) _ c.push.ensures.room c.push.new.self.limit c.push.ensures.limit c.from-prize.result c.height-at.result c.add.new.self (on_top c) c.height-at.ensures
     (omega (arith, room c, c.height-at.ensures)) (ap (λ (q : Prize). admits_prize (fact_of q)) c.from-prize.ensures ∙ sym c.if-not-is_prize.ensures) c.add.ensures.row c.add.ensures.saved
 
 pub returns-clause-stack : goal.returns-clause-stack
