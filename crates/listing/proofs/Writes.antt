@@ -40,6 +40,16 @@ written_then p s t old h =
 pub both_written : (n p : ℕ) (s t old : List ℕ) → n ≡ p + length s → p + length s ≤ length old → written_at n t (written_at p s old) ≡ written_at p (s ++ t) old
 both_written n p s t old e h = ap (λ k. written_at k t (written_at p s old)) e ∙ written_then p s t old h
 
+-- a text that ends at e, written backwards from there
+pub digits_written : (r p e : ℕ) (old new text : List ℕ) → r + length text ≡ e → e ≡ p + length text → drop r new ≡ text ++ drop e old → take r new ≡ take r old → new ≡ written_at p text old
+unfolding written_at
+digits_written r p e old new text starts ends behind before =
+    let place : r ≡ p = omega (arith, starts, ends) in
+    sym (take-append-drop r new)
+    ∙ (λ i. before i ++ behind i)
+    ∙ ap (λ k. take k old ++ (text ++ drop e old)) place
+    ∙ ap (λ k. take p old ++ (text ++ drop k old)) ends
+
 -- the whole of a text that has room
 pub whole_written : (text old : List ℕ) → length text ≤ length old → written_at 0 text old ≡ written_table text old
 unfolding written_at

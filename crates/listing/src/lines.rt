@@ -67,15 +67,19 @@ impl Line {
         self.before.len() + digits(self.first) + self.between.len() + digits(self.second) + 1
     }
 
-    // Writes the line into a table that has room for it, and returns the place behind it.
+    // Writes the line into a table that has room for it, and returns the place behind it. Among its callers' code the two texts are
+    // known, so that few bytes are not copied by a call.
     #[tactic(auto, using(crate::proofs::Writes::writing))]
+    #[inline(always)]
     pub(crate) fn put(&self, out: &mut [u8], at: usize) -> usize
         requires { at + length self.now ≤ length out.old }
         ensures end { result ≡ at + length self.now }
         ensures table { out.new ≡ written_at at self.now out.old }
     {
-        let at = put_number(out, at, self.before, self.first);
-        let at = put_number(out, at, self.between, self.second);
+        let at = put_text(out, at, self.before.as_bytes());
+        let at = put_number(out, at, self.first);
+        let at = put_text(out, at, self.between.as_bytes());
+        let at = put_number(out, at, self.second);
         put_text(out, at, b"\n")
     }
 }
