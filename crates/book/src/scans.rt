@@ -19,7 +19,8 @@ pub(crate) struct Front {
 }
 
 impl Book {
-    // Each withdrawal ends one of the equal facts alive, so those are as many as were entered less those withdrawn.
+    // Each withdrawal ends one of the equal facts alive, so those are as many as were entered less those withdrawn. The fields are
+    // compared whatever the kind, so that the pass has no branch for a record; with such branches it took up to twice the time.
     pub(crate) fn front(&self, number: usize, fact: Fact) -> Front
         ensures equal { result.equal ≡ equal_to fact (alive (take number (records_of self.now))) }
         ensures questions { result.questions ≡ question_count (take number (records_of self.now)) }
@@ -29,8 +30,10 @@ impl Book {
         let mut withdrawn = 0;
         let mut questions = 0;
         for item in self.records_before(number) {
-            entered += usize::from(item == Record::Fact(fact));
-            withdrawn += usize::from(item == Record::Withdrawal(fact));
+            let (first, second) = item.fields();
+            let equal = first == fact.first && second == fact.second;
+            entered += usize::from(equal && item.fact().is_some());
+            withdrawn += usize::from(equal && matches!(item, Record::Withdrawal(_)));
             questions += usize::from(item.question().is_some());
         }
         Front {
